@@ -1,0 +1,39 @@
+-- What an accepted call is known to give: corners within the largest axis, and positions whose bits are fixed.
+use mathlib.Core.Bool.{false}
+use mathlib.Core.List.{[], _∷_}
+use mathlib.Core.Path.{_≡_}
+use lib.Ieee.{Float, isNan}
+use Rattle.geometry.specs.declared.axis.Axis.the-variants.{X, Y, Z}
+use Rattle.geometry.specs.declared.quad.UnorientedQuad.{UnorientedQuad}
+use Rattle.geometry.specs.declared.face.OrientedBlockFace.{OrientedBlockFace}
+use Rattle.geometry.specs.declared.face.Corner.{Corner}
+use Rattle.geometry.specs.declared.face.QuadCorners.{QuadCorners}
+use Rattle.geometry.specs.declared.face.Position.{Position}
+use Rattle.geometry.specs.Refusal.{accepted}
+use Rattle.geometry.specs.Point.{along}
+use Rattle.geometry.specs.Quad.{largestAxis}
+use Rattle.geometry.specs.Checks.{badSign, badQuad, badSize, quadChecks, positionChecks, notFinite}
+use Rattle.geometry.specs.Corners.{corner, quadCorners, quadPosition}
+use Rattle.geometry.specs.Inner.{AtMost}
+use Rattle.geometry.proofs.Refusals.{first-passes, rest-accepts, accepts-value, accepts-checked}
+use Rattle.geometry.proofs.Limits.{quad-within-bounds}
+use Rattle.geometry.proofs.Corners.{corner-at-most}
+use Rattle.geometry.proofs.Floats.{product-no-nan}
+
+module _ (f : OrientedBlockFace) (q : UnorientedQuad) where
+  -- No corner of an accepted quad is past the largest axis on any axis.
+  pub accepted-corner : {k : QuadCorners} → quadCorners f q ≡ accepted k → (c : Corner) → AtMost largestAxis (corner f q c)
+  unfolding quadCorners
+  accepted-corner h = corner-at-most f q (quad-within-bounds f q [] (accepts-checked (quadChecks f q) _ h))
+
+  -- No part of an accepted position is NaN: so the promise fixes the bits of each.
+  pub accepted-position : (c : Corner) (size : Float) {p : Position} → quadPosition f q c size ≡ accepted p
+      → (isNan (p .x) ≡ false) × (isNan (p .y) ≡ false) × (isNan (p .z) ≡ false)
+  unfolding quadPosition along
+  accepted-position c size h =
+      let passed = accepts-checked (positionChecks f q size) _ h in
+      let most = corner-at-most f q (quad-within-bounds f q (badSize size ∷ []) passed) c in
+      let finite : notFinite size ≡ false =
+      first-passes (badSize size) [] tt (rest-accepts (badQuad f q) (badSize size ∷ []) tt (rest-accepts (badSign f) (badQuad f q ∷ badSize size ∷ []) tt passed)) in
+      rw (← accepts-value (positionChecks f q size) _ h)
+      (product-no-nan size finite _ (most X), product-no-nan size finite _ (most Y), product-no-nan size finite _ (most Z))

@@ -1,0 +1,63 @@
+-- Laws of corners: where the base lies along u and v, and that no corner is past the largest axis.
+use mathlib.Core.Bool.{Bool, true, false}
+use mathlib.Core.Path.{_≡_}
+use Prim.Native.Nat.{ℕ, _≤_}
+use native.Mathlib.Omega.{arith}
+use Rattle.geometry.specs.declared.quad.UnorientedQuad.{UnorientedQuad}
+use Rattle.geometry.specs.declared.face.OrientedBlockFace.{OrientedBlockFace}
+use Rattle.geometry.specs.declared.face.Corner.{Corner}
+use Rattle.geometry.specs.declared.face.Corner.the-variants.{MinuMinv, MaxuMinv, MinuMaxv, MaxuMaxv}
+use Rattle.geometry.specs.Point.{Point, along, moved}
+use Rattle.geometry.specs.Axes.{positive, bit, nAxis, uAxis, vAxis}
+use Rattle.geometry.specs.Quad.{largestAxis}
+use Rattle.geometry.specs.Corners.{base, corner}
+use Rattle.geometry.specs.Inner.{AtMost, WithinBounds}
+use Rattle.geometry.proofs.Frame.{frame, moved-none, moved-off, moved-at-most}
+
+bit-at-most : (b : Bool) → bit b ≤ 1
+bit-at-most true = omega arith
+bit-at-most false = omega arith
+
+module _ (f : OrientedBlockFace) (q : UnorientedQuad) where
+  -- The base of a face on the positive side is one up along n,
+  pub base-up : positive (f .«n_sign») ≡ true → base f q ≡ moved (nAxis f) 1 (q .minimum)
+  unfolding base
+  base-up e = simp e
+
+  -- and that of another is the minimum.
+  pub base-down : positive (f .«n_sign») ≡ false → base f q ≡ q .minimum
+  unfolding base
+  base-down e = simp (e, moved-none)
+
+  -- Along u and v the base lies where the minimum does,
+  pub base-u : along (uAxis f) (base f q) ≡ along (uAxis f) (q .minimum)
+  unfolding base
+  base-u = moved-off (uAxis f) (nAxis f) (frame (f .permutation) .un) _ (q .minimum)
+
+  pub base-v : along (vAxis f) (base f q) ≡ along (vAxis f) (q .minimum)
+  unfolding base
+  base-v = moved-off (vAxis f) (nAxis f) (frame (f .permutation) .vn) _ (q .minimum)
+
+  -- and a step along u leaves v alone.
+  pub v-by-u : (k : ℕ) (p : Point) → along (vAxis f) (moved (uAxis f) k p) ≡ along (vAxis f) p
+  v-by-u = moved-off (vAxis f) (uAxis f) (frame (f .permutation) .vu)
+
+  module _ (w : WithinBounds f q) where
+    base-at-most : AtMost largestAxis (base f q)
+    unfolding base
+    base-at-most =
+        moved-at-most (nAxis f) (bit (positive (f .«n_sign»))) largestAxis (q .minimum) (λ a. omega (arith, w .least a))
+        (omega (arith, w .least (nAxis f), bit-at-most (positive (f .«n_sign»))))
+
+    wide-at-most : AtMost largestAxis (moved (uAxis f) (q .width) (base f q))
+    wide-at-most = moved-at-most (uAxis f) (q .width) largestAxis (base f q) base-at-most (omega (arith, base-u))
+
+    -- No corner is past the largest axis: the base is not, and each step along u or v ends within it.
+    pub corner-at-most : (c : Corner) → AtMost largestAxis (corner f q c)
+    unfolding corner
+    corner-at-most MinuMinv = base-at-most
+    corner-at-most MaxuMinv = wide-at-most
+    corner-at-most MinuMaxv = moved-at-most (vAxis f) (q .height) largestAxis (base f q) base-at-most (omega (arith, base-v))
+    corner-at-most MaxuMaxv =
+        moved-at-most (vAxis f) (q .height) largestAxis (moved (uAxis f) (q .width) (base f q)) wide-at-most
+        (omega (arith, base-v, v-by-u (q .width) (base f q)))

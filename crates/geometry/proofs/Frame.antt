@@ -1,0 +1,63 @@
+-- A face's three axes as a frame: what a step along an axis does to the coordinates, and that a face's axes differ. What follows from the axes of the six
+-- permutations is shown here, case by case, once.
+use mathlib.Core.Bool.{false}
+use mathlib.Core.Path.{_≡_, refl}
+use Prim.Native.Nat.{ℕ, _+_, _≤_}
+use native.Mathlib.Nat.{add-zero}
+use Rattle.geometry.specs.declared.axis.Axis.{Axis}
+use Rattle.geometry.specs.declared.axis.Axis.the-variants.{X, Y, Z}
+use Rattle.geometry.specs.declared.axis.Axes.{Axes}
+use Rattle.geometry.specs.declared.axis.AxisPermutation.{AxisPermutation}
+use Rattle.geometry.specs.declared.axis.AxisPermutation.the-variants.{Xyz, Zxy, Yzx, Zyx, Xzy, Yxz}
+use Rattle.geometry.specs.Point.{Point, along, put, moved, sameAxis}
+use Rattle.geometry.specs.Axes.{axesOf}
+use Rattle.geometry.specs.Inner.{AtMost}
+
+-- No step leaves a point where it is.
+pub moved-none : (a : Axis) (p : Point) → moved a 0 p ≡ p
+unfolding moved put along
+moved-none X p = simp add-zero
+moved-none Y p = simp add-zero
+moved-none Z p = simp add-zero
+
+-- A step along an axis adds to the coordinate on it,
+pub moved-on : (a : Axis) (k : ℕ) (p : Point) → along a (moved a k p) ≡ along a p + k
+unfolding moved put along
+moved-on X k p = refl
+moved-on Y k p = refl
+moved-on Z k p = refl
+
+-- and leaves the others alone.
+pub moved-off : (a b : Axis) → sameAxis a b ≡ false → (k : ℕ) (p : Point) → along a (moved b k p) ≡ along a p
+unfolding moved put along
+moved-off X X e k p = cc
+moved-off X Y e k p = refl
+moved-off X Z e k p = refl
+moved-off Y X e k p = refl
+moved-off Y Y e k p = cc
+moved-off Y Z e k p = refl
+moved-off Z X e k p = refl
+moved-off Z Y e k p = refl
+moved-off Z Z e k p = cc
+
+-- So a bound on all coordinates stays one where it holds of the coordinate that grew.
+pub moved-at-most : (a : Axis) (k m : ℕ) (p : Point) → AtMost m p → along a p + k ≤ m → AtMost m (moved a k p)
+unfolding moved put along
+moved-at-most X k m p h l = elim [ X ↦ l | Y ↦ h Y | Z ↦ h Z ]
+moved-at-most Y k m p h l = elim [ X ↦ h X | Y ↦ l | Z ↦ h Z ]
+moved-at-most Z k m p h l = elim [ X ↦ h X | Y ↦ h Y | Z ↦ l ]
+
+-- Three axes that differ.
+pub record Frame (a : Axes) : Type 0 where
+  pub un : sameAxis (a .u) (a .n) ≡ false
+  pub vn : sameAxis (a .v) (a .n) ≡ false
+  pub vu : sameAxis (a .v) (a .u) ≡ false
+
+-- Every permutation's do.
+pub frame : (p : AxisPermutation) → Frame (axesOf p)
+frame Xyz = record { un = refl; vn = refl; vu = refl }
+frame Zxy = record { un = refl; vn = refl; vu = refl }
+frame Yzx = record { un = refl; vn = refl; vu = refl }
+frame Zyx = record { un = refl; vn = refl; vu = refl }
+frame Xzy = record { un = refl; vn = refl; vu = refl }
+frame Yxz = record { un = refl; vn = refl; vu = refl }

@@ -1,0 +1,13 @@
+-- What the crate promises, in document 01's words: document 01 is the customer's scope and rules. To be read in this order; axis.rs, quad.rs and face.rs are
+-- block-mesh 0.2.0's, under src/geometry.
+pub mod Refusal
+pub mod Point
+pub mod Axes
+pub mod Quad
+pub mod Checks
+pub mod Face
+pub mod Corners
+pub mod Vertices
+pub mod Textures
+pub mod Answers
+pub mod Inner

@@ -1,0 +1,30 @@
+// The refusal numbers that geometry gives, document 01's and 17, which is ours (docs/DECISIONS.md),
+// and the answer of a check.
+
+// A face's sign is neither 1 nor -1.
+pub const FACE_SIGN: u32 = 6;
+
+// A signed axis from sign 0, or from the zero vector.
+pub const NO_DIRECTION: u32 = 10;
+
+// A vector with two or more nonzero parts.
+pub const MANY_DIRECTIONS: u32 = 11;
+
+// A quad outside the limits: its minimum is at most 255 on each axis, its sides are at least 1, and
+// none ends past 256. (255 and 256 follow from `LARGEST_AXIS`.)
+pub const QUAD_LIMITS: u32 = 12;
+
+// A first index above 4,294,967,292, which leaves no room for three more.
+pub const FIRST_INDEX: u32 = 13;
+
+// A voxel size that is NaN or infinite.
+pub const VOXEL_SIZE: u32 = 14;
+
+// A permutation's number that is not 0 to 5.
+pub const PERMUTATION_NUMBER: u32 = 17;
+
+// What a check says: nothing is refused, or the refusal number.
+pub enum CheckAnswer {
+    Passed,
+    Refused(u32),
+}
