@@ -10,8 +10,8 @@ pub const NO_DIRECTION: u32 = 10;
 // A vector with two or more nonzero parts.
 pub const MANY_DIRECTIONS: u32 = 11;
 
-// A quad outside the limits: its minimum is at most 255 on each axis, its sides are at least 1, and
-// none ends past 256. (255 and 256 follow from `LARGEST_AXIS`.)
+// A quad outside the limits: its minimum is below `LARGEST_AXIS` on each axis, its sides are at
+// least 1, and none ends past `LARGEST_AXIS`.
 pub const QUAD_LIMITS: u32 = 12;
 
 // A first index above 4,294,967,292, which leaves no room for three more.
