@@ -4,8 +4,7 @@ use mathlib.Core.Path.{_≡_, sym, _∙_, ap}
 use Prim.Native.Nat.{ℕ}
 use Rattle.geometry.specs.declared.refusal.CheckAnswer
 use Rattle.geometry.specs.declared.refusal.CheckAnswer.the-variants.{Passed, Refused}
-use Rattle.geometry.specs.Refusal.{Answer, accepted, refused, Check, answer, checked}
-use Rattle.geometry.specs.Inner.{follow}
+use Rattle.geometry.specs.Refusal.{Answer, accepted, refused, Check, answer, checked, follow}
 use Rattle.geometry.specs.Answers.{checkMeaning}
 use Rattle.geometry.proofs.Refusals.{in-turn, decided}
 

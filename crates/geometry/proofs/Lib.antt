@@ -19,5 +19,7 @@ pub mod Faces
 pub mod Floats
 -- What an accepted call is known to give.
 pub mod Accepted
--- That each public contract leaves one outcome.
+-- What it means that a contract leaves one outcome.
+pub mod One
+-- That each public contract does.
 pub mod Unique

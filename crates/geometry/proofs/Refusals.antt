@@ -2,8 +2,7 @@
 use mathlib.Core.Bool.{Bool, true, false}
 use mathlib.Core.List.{List, [], _∷_, _++_, append-nil}
 use mathlib.Core.Path.{_≡_, refl, sym, _∙_}
-use Rattle.geometry.specs.Refusal.{accepted, refused, Check, answer, checked}
-use Rattle.geometry.specs.Inner.{follow}
+use Rattle.geometry.specs.Refusal.{accepted, refused, Check, answer, checked, follow}
 
 -- A case on a test, with its outcome as an equation.
 pub split {ℓ} : {P : Type ℓ} (b : Bool) → (b ≡ true → P) → (b ≡ false → P) → P

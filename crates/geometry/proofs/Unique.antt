@@ -1,8 +1,7 @@
 -- Every public function's contract leaves one outcome: any two that it allows are equal. Each theorem is about the contract itself, as the function's
 -- generated `Reads` has it (`Post`), and not about a copy of it. No function here is lent anything, so its outcome is its result.
-use mathlib.Core.Path.{_≡_, refl, sym, _∙_, ap}
-use Prim.Native.Nat.{ℕ}
-use Rattle.geometry.specs.Refusal.{Answer, accepted, refused}
+use mathlib.Core.Path.{_≡_, refl, sym, _∙_}
+use Rattle.geometry.proofs.One.{One, answered}
 use Rattle.geometry.specs.Answers as says
 use Rattle.geometry.specs.declared.refusal.CheckAnswer
 use Rattle.geometry.specs.declared.axis.PermutationAnswer
@@ -41,56 +40,40 @@ use Rattle.geometry.proofs.face.OrientedBlockFace.signed_normal.Reads a
 use Rattle.geometry.proofs.face.OrientedBlockFace.tex_coords.Reads as OrientedBlockFace-tex-coords
 use Rattle.geometry.proofs.quad.UnorientedQuad.from.Reads as UnorientedQuad-from
 
--- A contract, as a relation of lifetimes, arguments, the result and what is lent at exit, leaves one result. (Of a function that is lent a buffer this is
--- not enough: there the buffer at exit has to be one too.)
-abbrev One {ℓ α ρ σ π} :
-    {L : Type ℓ} {A : L → Type α} {R : L → Type ρ} {S : L → Type σ} → ((κs : L) → A κs → R κs → S κs → Type π) → Type (ℓ ⊔ α ⊔ ρ ⊔ σ ⊔ π)
-One {L = L} {A = A} {R = R} {S = S} Post =
-    (κs : L) (a : A κs) (r r′ : R κs) (s s′ : S κs) → Post κs a r s → Post κs a r′ s′ → r ≡ r′
-
 -- ---- answers that mean the same are the same
 
--- An answer back from what it means.
-abbrev back : {A E : Type 0} → (A → E) → (ℕ → E) → Answer A → E
-back value number (accepted a) = value a
-back value number (refused n p) = number n
-
--- Where every answer comes back from its meaning, answers with one meaning are one.
-answered : {A E : Type 0} (means : E → Answer A) (value : A → E) (number : ℕ → E) → ((r : E) → back value number (means r) ≡ r) → (r r′ : E) → means r ≡ means r′ → r ≡ r′
-answered means value number comes r r′ e = sym (comes r) ∙ ap (back value number) e ∙ comes r′
-
 check-one : (r r′ : CheckAnswer.CheckAnswer) → says.checkMeaning r ≡ says.checkMeaning r′ → r ≡ r′
-check-one = answered says.checkMeaning (λ u. CheckAnswer.the-variants.Passed) CheckAnswer.the-variants.Refused (elim [ CheckAnswer.the-variants.Passed ↦ refl | CheckAnswer.the-variants.Refused n ↦ refl ])
+check-one = answered says.checkMeaning (λ u. CheckAnswer.the-variants.Passed) (λ n p. CheckAnswer.the-variants.Refused n) (elim [ CheckAnswer.the-variants.Passed ↦ refl | CheckAnswer.the-variants.Refused n ↦ refl ])
 
 permutation-one : (r r′ : PermutationAnswer.PermutationAnswer) → says.permutationMeaning r ≡ says.permutationMeaning r′ → r ≡ r′
-permutation-one = answered says.permutationMeaning PermutationAnswer.the-variants.Permutation PermutationAnswer.the-variants.Refused (elim [ PermutationAnswer.the-variants.Permutation a ↦ refl | PermutationAnswer.the-variants.Refused n ↦ refl ])
+permutation-one = answered says.permutationMeaning PermutationAnswer.the-variants.Permutation (λ n p. PermutationAnswer.the-variants.Refused n) (elim [ PermutationAnswer.the-variants.Permutation a ↦ refl | PermutationAnswer.the-variants.Refused n ↦ refl ])
 
 signed-axis-one : (r r′ : SignedAxisAnswer.SignedAxisAnswer) → says.signedAxisMeaning r ≡ says.signedAxisMeaning r′ → r ≡ r′
-signed-axis-one = answered says.signedAxisMeaning SignedAxisAnswer.the-variants.Made SignedAxisAnswer.the-variants.Refused (elim [ SignedAxisAnswer.the-variants.Made a ↦ refl | SignedAxisAnswer.the-variants.Refused n ↦ refl ])
+signed-axis-one = answered says.signedAxisMeaning SignedAxisAnswer.the-variants.Made (λ n p. SignedAxisAnswer.the-variants.Refused n) (elim [ SignedAxisAnswer.the-variants.Made a ↦ refl | SignedAxisAnswer.the-variants.Refused n ↦ refl ])
 
 face-one : (r r′ : FaceAnswer.FaceAnswer) → says.faceMeaning r ≡ says.faceMeaning r′ → r ≡ r′
-face-one = answered says.faceMeaning FaceAnswer.the-variants.Face FaceAnswer.the-variants.Refused (elim [ FaceAnswer.the-variants.Face a ↦ refl | FaceAnswer.the-variants.Refused n ↦ refl ])
+face-one = answered says.faceMeaning FaceAnswer.the-variants.Face (λ n p. FaceAnswer.the-variants.Refused n) (elim [ FaceAnswer.the-variants.Face a ↦ refl | FaceAnswer.the-variants.Refused n ↦ refl ])
 
 signed-normal-one : (r r′ : SignedNormalAnswer.SignedNormalAnswer) → says.signedNormalMeaning r ≡ says.signedNormalMeaning r′ → r ≡ r′
-signed-normal-one = answered says.signedNormalMeaning SignedNormalAnswer.the-variants.SignedNormal SignedNormalAnswer.the-variants.Refused (elim [ SignedNormalAnswer.the-variants.SignedNormal a ↦ refl | SignedNormalAnswer.the-variants.Refused n ↦ refl ])
+signed-normal-one = answered says.signedNormalMeaning SignedNormalAnswer.the-variants.SignedNormal (λ n p. SignedNormalAnswer.the-variants.Refused n) (elim [ SignedNormalAnswer.the-variants.SignedNormal a ↦ refl | SignedNormalAnswer.the-variants.Refused n ↦ refl ])
 
 corners-one : (r r′ : CornersAnswer.CornersAnswer) → says.cornersMeaning r ≡ says.cornersMeaning r′ → r ≡ r′
-corners-one = answered says.cornersMeaning CornersAnswer.the-variants.Corners CornersAnswer.the-variants.Refused (elim [ CornersAnswer.the-variants.Corners a ↦ refl | CornersAnswer.the-variants.Refused n ↦ refl ])
+corners-one = answered says.cornersMeaning CornersAnswer.the-variants.Corners (λ n p. CornersAnswer.the-variants.Refused n) (elim [ CornersAnswer.the-variants.Corners a ↦ refl | CornersAnswer.the-variants.Refused n ↦ refl ])
 
 positions-one : (r r′ : PositionsAnswer.PositionsAnswer) → says.positionsMeaning r ≡ says.positionsMeaning r′ → r ≡ r′
-positions-one = answered says.positionsMeaning PositionsAnswer.the-variants.Positions PositionsAnswer.the-variants.Refused (elim [ PositionsAnswer.the-variants.Positions a ↦ refl | PositionsAnswer.the-variants.Refused n ↦ refl ])
+positions-one = answered says.positionsMeaning PositionsAnswer.the-variants.Positions (λ n p. PositionsAnswer.the-variants.Refused n) (elim [ PositionsAnswer.the-variants.Positions a ↦ refl | PositionsAnswer.the-variants.Refused n ↦ refl ])
 
 normals-one : (r r′ : NormalsAnswer.NormalsAnswer) → says.normalsMeaning r ≡ says.normalsMeaning r′ → r ≡ r′
-normals-one = answered says.normalsMeaning NormalsAnswer.the-variants.Normals NormalsAnswer.the-variants.Refused (elim [ NormalsAnswer.the-variants.Normals a ↦ refl | NormalsAnswer.the-variants.Refused n ↦ refl ])
+normals-one = answered says.normalsMeaning NormalsAnswer.the-variants.Normals (λ n p. NormalsAnswer.the-variants.Refused n) (elim [ NormalsAnswer.the-variants.Normals a ↦ refl | NormalsAnswer.the-variants.Refused n ↦ refl ])
 
 indices-one : (r r′ : IndicesAnswer.IndicesAnswer) → says.indicesMeaning r ≡ says.indicesMeaning r′ → r ≡ r′
-indices-one = answered says.indicesMeaning IndicesAnswer.the-variants.Indices IndicesAnswer.the-variants.Refused (elim [ IndicesAnswer.the-variants.Indices a ↦ refl | IndicesAnswer.the-variants.Refused n ↦ refl ])
+indices-one = answered says.indicesMeaning IndicesAnswer.the-variants.Indices (λ n p. IndicesAnswer.the-variants.Refused n) (elim [ IndicesAnswer.the-variants.Indices a ↦ refl | IndicesAnswer.the-variants.Refused n ↦ refl ])
 
 tex-coords-one : (r r′ : TexCoordsAnswer.TexCoordsAnswer) → says.texCoordsMeaning r ≡ says.texCoordsMeaning r′ → r ≡ r′
-tex-coords-one = answered says.texCoordsMeaning TexCoordsAnswer.the-variants.TexCoords TexCoordsAnswer.the-variants.Refused (elim [ TexCoordsAnswer.the-variants.TexCoords a ↦ refl | TexCoordsAnswer.the-variants.Refused n ↦ refl ])
+tex-coords-one = answered says.texCoordsMeaning TexCoordsAnswer.the-variants.TexCoords (λ n p. TexCoordsAnswer.the-variants.Refused n) (elim [ TexCoordsAnswer.the-variants.TexCoords a ↦ refl | TexCoordsAnswer.the-variants.Refused n ↦ refl ])
 
 position-one : (r r′ : PositionAnswer.PositionAnswer) → says.positionMeaning r ≡ says.positionMeaning r′ → r ≡ r′
-position-one = answered says.positionMeaning (λ a. PositionAnswer.the-variants.Position (a .x) (a .y) (a .z)) PositionAnswer.the-variants.Refused (elim [ PositionAnswer.the-variants.Position x y z ↦ refl | PositionAnswer.the-variants.Refused n ↦ refl ])
+position-one = answered says.positionMeaning (λ a. PositionAnswer.the-variants.Position (a .x) (a .y) (a .z)) (λ n p. PositionAnswer.the-variants.Refused n) (elim [ PositionAnswer.the-variants.Position x y z ↦ refl | PositionAnswer.the-variants.Refused n ↦ refl ])
 
 -- ---- the theorems
 

@@ -6,7 +6,6 @@ use Rattle.geometry.specs.declared.face.OrientedBlockFace.{OrientedBlock
 use Rattle.geometry.specs.Point.{Point, along}
 use Rattle.geometry.specs.Axes.{uAxis, vAxis}
 use Rattle.geometry.specs.Quad.{largestAxis}
-use Rattle.geometry.specs.Refusal.{Answer, accepted, refused}
 
 -- No coordinate of the point is above k.
 abbrev pub AtMost : ℕ → Point → Type 0
@@ -17,8 +16,3 @@ pub record WithinBounds (f : OrientedBlockFace) (q : UnorientedQuad) : Type 0 wh
   pub least : AtMost (largestAxis - 1) (q .minimum)
   pub wide : along (uAxis f) (q .minimum) + q .width ≤ largestAxis
   pub high : along (vAxis f) (q .minimum) + q .height ≤ largestAxis
-
--- One answer and then another: a refusal stands, and where nothing was refused the second is given.
-abbrev pub follow : {A : Type 0} → Answer (Unit {0}) → Answer A → Answer A
-follow (accepted u) second = second
-follow (refused n p) second = refused n p

@@ -27,3 +27,8 @@ answer (c ∷ cs) a = elim (c .applies) [ true ↦ refused (c .number) (c .place
 -- Checks by themselves: where none applies there is nothing more to say.
 abbrev pub checked : List Check → Answer (Unit {0})
 checked cs = answer cs tt
+
+-- One answer and then another: a refusal stands, and where nothing was refused the second is given.
+abbrev pub follow : {A : Type 0} → Answer (Unit {0}) → Answer A → Answer A
+follow (accepted u) second = second
+follow (refused n p) second = refused n p

@@ -9,7 +9,7 @@ ghost use mathlib.Core.Bool.{true};
 ghost use mathlib.Core.List.{[], _∷_};
 ghost use Prim.Native.Nat.{_+_, _<_, _≤_, _^_};
 ghost use lib.IntN.{pos, _*ℤ_};
-ghost use Rattle.geometry.specs.Refusal.{checked};
+ghost use Rattle.geometry.specs.Refusal.{checked, follow};
 ghost use Rattle.geometry.specs.Point.{along, moved};
 ghost use Rattle.geometry.specs.Axes.{positive, permutationSign};
 ghost use Rattle.geometry.specs.Quad.{largestAxis, minimumWithinLimits, sideWithinLimits};
@@ -19,7 +19,7 @@ ghost use Rattle.geometry.specs.Corners.{base, corner, corners, quadCorn
 ghost use Rattle.geometry.specs.Vertices.{indices, quadIndices};
 ghost use Rattle.geometry.specs.Textures.{flipsU, sideEnd, pairs, quadTextures};
 ghost use Rattle.geometry.specs.Answers.{checkMeaning, faceMeaning, signedNormalMeaning, cornersMeaning, positionsMeaning, positionMeaning, normalsMeaning, indicesMeaning, texCoordsMeaning};
-ghost use Rattle.geometry.specs.Inner.{WithinBounds, follow};
+ghost use Rattle.geometry.specs.Inner.{WithinBounds};
 use crate::LARGEST_AXIS;
 use crate::axis::Axis;
 use crate::axis::AxisPermutation;

@@ -3,7 +3,7 @@ use borrow.Author.Needs.{needs}
 use mathlib.Core.Path.{ap, sym}
 use Rattle.geometry.specs.declared.refusal.CheckAnswer.{CheckAnswer}
 use Rattle.geometry.specs.Answers.{checkMeaning}
-use Rattle.geometry.specs.Inner.{follow}
+use Rattle.geometry.specs.Refusal.{follow}
 use Rattle.geometry.proofs.face.first_refusal.Statement.{statement}
 use Rattle.geometry.proofs.face.first_refusal.Tie as tie
 
