@@ -1,0 +1,22 @@
+-- Laws, and what is shown of the contracts themselves. A function's own proof stands in the folder named after it.
+-- Of products and remainders.
+
+pub mod Numbers
+-- Of voxels that show their faces.
+pub mod Voxels
+-- Of places in a shape: index and stride.
+pub mod Places
+-- Of orders of refusals, asked part by part.
+pub mod Orders
+-- Of checks asked by a loop.
+pub mod Asked
+-- Of scan order, and loops over it.
+pub mod Scan
+-- What checks 1 to 5 leave.
+pub mod Held
+-- Of steps to a neighbour.
+pub mod Steps
+-- What refusal 8 tells its reader.
+pub mod Lowest
+-- That each public contract leaves one outcome.
+pub mod Unique

@@ -1,0 +1,56 @@
+-- What private functions require and promise. No public contract uses these.
+use mathlib.Core.Bool.{Bool, true, false}
+use mathlib.Core.List.{List, [], _∷_, _++_}
+use Prim.Native.Nat.{ℕ, _+_, _*_, _≤_, _<_}
+use Rattle.geometry.specs.declared.axis.Axis.{Axis}
+use Rattle.geometry.specs.Point.{Point, along}
+use Rattle.geometry.specs.Refusal.{Check}
+use Rattle.voxels.specs.Shape.{size}
+use Rattle.voxels.specs.Extent.{every}
+use Rattle.voxels.specs.Checks.{badVoxelAt}
+
+-- The most voxels that a shape has.
+abbrev pub mostVoxels : ℕ
+mostVoxels = 16_777_216
+
+-- What checks 1 to 5 leave: the box lies in the shape, spans two voxels or more on each axis, and every voxel was lent.
+pub record Held (shape : Point) (lent : ℕ) (min max : Point) : Type 0 where
+  pub small : size shape ≤ mostVoxels
+  pub enough : size shape ≤ lent
+  pub spans : (a : Axis) → along a min < along a max
+  pub within : (a : Axis) → along a max < along a shape
+
+-- What `f` gives at each of a list, end to end.
+unfoldable pub gathered : {A B : Type 0} → (A → List B) → List A → List B
+gathered f [] = []
+gathered f (a ∷ l) = f a ++ gathered f l
+
+-- An item where it passes a test, and nothing where it does not.
+unfoldable pub kept : {A : Type 0} → (A → Bool) → A → List A
+kept test a = elim (test a) [ true ↦ a ∷ [] | false ↦ [] ]
+
+-- What `g` gives at the indices of a row of so many voxels from an index on, end to end.
+unfoldable pub row : {A : Type 0} → (ℕ → List A) → ℕ → ℕ → List A
+row g wide i = every 1 i wide g
+
+-- What `g` gives in so many rows, a stride apart, the first from an index on.
+unfoldable pub rows : {A : Type 0} → (ℕ → List A) → ℕ → ℕ → ℕ → ℕ → List A
+rows g wide d high i = every d i high (row g wide)
+
+-- What `g` gives in so many slices, a stride apart, the first from an index on.
+unfoldable pub slices : {A : Type 0} → (ℕ → List A) → ℕ → ℕ → ℕ → ℕ → ℕ → ℕ → List A
+slices g wide d high e deep i = every e i deep (rows g wide d high)
+
+-- Refusal 8 of the voxel at an index, as a list.
+abbrev pub badAt : List ℕ → ℕ → List Check
+badAt voxels i = badVoxelAt voxels i ∷ []
+
+-- So many rows, a stride apart, lie among the voxels lent, and their indices fit.
+pub record RowsLent (lent i wide d high : ℕ) : Type 0 where
+  pub each : (k : ℕ) → k < high → i + k * d + wide ≤ lent
+  pub last : i + high * d ≤ 2 * mostVoxels
+
+-- So do the rows of so many slices, a stride apart.
+pub record SlicesLent (lent i wide d high e deep : ℕ) : Type 0 where
+  pub each : (k : ℕ) → k < deep → RowsLent lent (i + k * e) wide d high
+  pub last : i + deep * e ≤ 2 * mostVoxels

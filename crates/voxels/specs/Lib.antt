@@ -1,0 +1,12 @@
+-- To be read in this order.
+
+pub mod Voxel
+pub mod Shape
+pub mod Extent
+pub mod Visible
+pub mod Checks
+pub mod Listing
+pub mod Answers
+pub mod Statements
+-- For private contracts alone:
+pub mod Inner
