@@ -4,6 +4,7 @@
 mod axes;
 mod corners;
 mod draw;
+mod entry;
 mod faces;
 mod show;
 mod textures;
@@ -16,4 +17,5 @@ fn main() {
     vertices::run();
     textures::run();
     draw::run();
+    entry::run();
 }

@@ -1,0 +1,23 @@
+-- Document 01's marked examples hold of the rules: each side of each row is computed.
+use mathlib.Core.Path.{refl}
+use Rattle.geometry.specs.Refusal.{answer}
+use Rattle.geometry.specs.Point.{along, put, moved}
+use Rattle.geometry.specs.Axes.{same}
+use Rattle.geometry.specs.Quad.{minimumWithinLimits, sideWithinLimits, withinLimits}
+use Rattle.geometry.specs.Checks.{properSign}
+use Rattle.geometry.specs.Corners.{base, corner, quadCorners}
+use Rattle.geometry.specs.Textures.{flipsU, quadTextures}
+use Rattle.voxels.specs.Voxel.{class, mergeValue, shows, uniform}
+use Rattle.voxels.specs.Shape.{size, index, field}
+use Rattle.voxels.specs.Extent.{every, scan, Each}
+use Rattle.voxels.specs.Checks.{boundsChecks, badAxis, badFacesFrom, badVoxels}
+use Rattle.voxels.specs.Listing.{joined, overwritten, capacity, lay}
+use Rattle.voxels.specs.Visible.{stepped, visible}
+use Rattle.greedy.specs.Group.{sliceAt, sweep, among, contains, visited, passes, scanned, swept, group}
+use Rattle.greedy.specs.Merger.{follows, rowWalk, rowsWalk, voxelMerger}
+use Rattle.greedy.specs.Greedy.{greedyGroup, greedyGroups, greedyTests, greedyQuads}
+use Rattle.greedy.specs.Table.{block, quadsOf, testsOf, call, Holds, table}
+
+pub table-holds : Each Holds table
+unfolding table Each Holds quadsOf testsOf call block greedyQuads greedyGroups lay joined overwritten capacity boundsChecks badAxis badFacesFrom badVoxels greedyGroup greedyTests group swept scanned passes visited contains among sweep sliceAt voxelMerger rowsWalk rowWalk follows visible stepped scan every field index size class mergeValue shows uniform along put moved quadCorners quadTextures answer properSign same withinLimits minimumWithinLimits sideWithinLimits base corner flipsU
+table-holds = (refl, ((refl, refl), (refl, (refl, (refl, ((refl, refl), ((refl, refl), ((refl, refl), (refl, ((refl, refl), (refl, (refl, (refl, (refl, (refl, (refl, tt))))))))))))))))

@@ -1,0 +1,73 @@
+-- Greedy meshing: document 01, 'Greedy meshing', and of 'Refusal numbers' what stands below the table; greedy.rs lines 58 to 111.
+use mathlib.Core.List.{List, [], _∷_, map}
+use Prim.Native.Nat.{ℕ, _+_}
+use lib.ListN.{length, replicate}
+use Rattle.geometry.specs.declared.quad.UnorientedQuad.{UnorientedQuad}
+use Rattle.geometry.specs.declared.face.OrientedBlockFace.{OrientedBlockFace}
+use Rattle.geometry.specs.Refusal.{Answer, accepted, refused, checked, follow}
+use Rattle.geometry.specs.Point.{Point}
+use Rattle.voxels.specs.declared.extent.Extent.{Extent}
+use Rattle.voxels.specs.Shape.{size, Field, field}
+use Rattle.voxels.specs.Extent.{interior}
+use Rattle.voxels.specs.Checks.{greedyChecks}
+use Rattle.voxels.specs.Listing.{overwritten, Laid, lay, atExit}
+use Rattle.greedy.specs.declared.GreedyAnswer.{GreedyAnswer}
+use Rattle.greedy.specs.Group.{State, group}
+use Rattle.greedy.specs.Merger.{voxelMerger}
+
+-- The greedy group of a face, with the tests made for it: the walk picks the rectangles.
+unfoldable pub greedyGroup : Extent → Field → OrientedBlockFace → State
+greedyGroup inner v f = group f v inner (voxelMerger f v)
+
+-- A quad as it is listed.
+pub record Listed : Type 0 where
+  pub quad : UnorientedQuad
+
+-- The quad of a group, listed.
+abbrev pub listed : UnorientedQuad → Listed
+listed q = record { quad = q }
+
+-- How many numbers a listed quad has.
+abbrev pub quadNumbers : ℕ
+quadNumbers = 5
+
+-- Which they are: "write the quad: minimum x, y, z, width (along u), height (along v)".
+abbrev pub numbersOf : Listed → List ℕ
+numbersOf l =
+    let q : UnorientedQuad = l .quad in
+    q .minimum .x ∷ q .minimum .y ∷ q .minimum .z ∷ q .width ∷ q .height ∷ []
+
+-- "Six groups again, each with its own cleared visited marks; the same face given twice gives two equal groups" (108 to 110).
+unfoldable pub greedyGroups : Extent → Field → List OrientedBlockFace → List (List Listed)
+greedyGroups inner v faces = map (λ (f : OrientedBlockFace). map listed (greedyGroup inner v f .quads)) faces
+
+-- "the tests summed over the six faces"
+unfoldable pub greedyTests : Extent → Field → List OrientedBlockFace → ℕ
+greedyTests inner v [] = 0
+greedyTests inner v (f ∷ fs) = greedyGroup inner v f .tests + greedyTests inner v fs
+
+-- Document 01's answer as the struct that the call gives, from the tests and the counts or the refusal: "A refusal gives zeros for all counts." The tests are zero then too.
+abbrev pub greedyAnswer : ℕ → Answer (List ℕ) → GreedyAnswer
+greedyAnswer tests (accepted counts) = record { refusal = 0; place = 0; counts = counts; tests = tests }
+greedyAnswer tests (refused n p) = record { refusal = n; place = p; counts = replicate 6 0; tests = 0 }
+
+-- All that a call leaves: its answer, and the visited bytes and the output at exit.
+pub record GreedyOutcome : Type 0 where
+  pub answer : GreedyAnswer
+  pub visitedBytes : List ℕ
+  pub out : List ℕ
+
+-- The whole outcome of greedy meshing. It refuses by 1 to 8, then by 9; otherwise the answer has the number of quads of each group, and the tests. Where the entry checks pass
+-- the output holds the listing, as far as it fits, and "the first X·Y·Z visited bytes are 0, the rest unchanged, whatever they held before". (The Rust's own vector is as long
+-- as the voxels lent, 98.)
+unfoldable pub greedyQuads : List ℕ → Point → Point → Point → List OrientedBlockFace → List ℕ → List ℕ → GreedyOutcome
+greedyQuads voxels shape min max faces bytes out =
+    let inner : Extent = interior min max in
+    let v : Field = field shape voxels in
+    let entry : Answer (Unit {0}) = checked (greedyChecks voxels shape min max faces (length bytes)) in
+    let laid : Laid = lay quadNumbers numbersOf (greedyGroups inner v faces) out in
+    record {
+      answer = greedyAnswer (greedyTests inner v faces) (follow entry (laid .answer));
+      visitedBytes = atExit entry (overwritten (replicate (size shape) 0) bytes) bytes;
+      out = atExit entry (laid .out) out;
+    }

@@ -1,0 +1,6 @@
+-- To be read in this order.
+
+pub mod Group
+pub mod Merger
+pub mod Greedy
+pub mod Table

@@ -1,0 +1,52 @@
+-- How `VoxelMerger` picks a rectangle: document 01, 'Greedy meshing', "Width" and "Height"; merge_strategy.rs lines 50 to 140.
+use mathlib.Core.Bool.{Bool, true, false, _&&_}
+use mathlib.Core.List.{List}
+use Prim.Native.Nat.{ℕ, zero, suc, _+_, _-_}
+use lib.Dec.{eqb}
+use Rattle.geometry.specs.declared.quad.UnorientedQuad.{UnorientedQuad}
+use Rattle.geometry.specs.declared.face.OrientedBlockFace.{OrientedBlockFace}
+use Rattle.geometry.specs.Point.{Point, moved}
+use Rattle.geometry.specs.Axes.{uAxis, vAxis}
+use Rattle.voxels.specs.Voxel.{uniform}
+use Rattle.voxels.specs.Shape.{Field}
+use Rattle.greedy.specs.Group.{passes, Choice}
+
+-- What a walk got, and its tests, "the failing one included".
+pub record Walked : Type 0 where
+  pub got : ℕ
+  pub tests : ℕ
+
+-- The test of a voxel in a row walk: "testing each voxel, also its merge value against the first one's". "The merge value belongs to the same test" (123 to 132).
+unfoldable pub follows : OrientedBlockFace → Field → List UnorientedQuad → Point → Point → Bool
+follows f v qs first p = passes f v qs p && uniform (v first) (v p)
+
+-- A row walk of at most so many voxels along +u from p on: how many pass before one fails (108 to 139). "stop at the first failure or at the slice's edge"
+unfoldable pub rowWalk : OrientedBlockFace → Field → List UnorientedQuad → Point → Point → ℕ → Walked
+rowWalk f v qs first p zero = record { got = 0; tests = 0 }
+rowWalk f v qs first p (suc most) =
+    elim (follows f v qs first p) [
+      | false ↦ record { got = 0; tests = 1 }
+      | true ↦
+          let rest : Walked = rowWalk f v qs first (moved (uAxis f) 1 p) most in
+          record { got = 1 + rest .got; tests = 1 + rest .tests }
+    ]
+
+-- How many rows of the given width are whole, one after another along +v from p on, at most so many (83 to 101): "at most `width` voxels, by the same test; a whole row adds one,
+-- a failure ends it. Stop at the edge."
+unfoldable pub rowsWalk : OrientedBlockFace → Field → List UnorientedQuad → Point → ℕ → Point → ℕ → Walked
+rowsWalk f v qs first width p zero = record { got = 0; tests = 0 }
+rowsWalk f v qs first width p (suc most) =
+    let w : Walked = rowWalk f v qs first p width in
+    elim (eqb (w .got) width) [
+      | false ↦ record { got = 0; tests = w .tests }
+      | true ↦
+          let rest : Walked = rowsWalk f v qs first width (moved (vAxis f) 1 p) most in
+          record { got = 1 + rest .got; tests = w .tests + rest .tests }
+    ]
+
+-- The walk's rectangle (60 to 104): "Width: walk along +u from that voxel itself". "Height: starts at 1. Walk the next row along +v".
+unfoldable pub voxelMerger : OrientedBlockFace → Field → Choice
+voxelMerger f v qs p wide high =
+    let w : Walked = rowWalk f v qs p p wide in
+    let h : Walked = rowsWalk f v qs p (w .got) (moved (vAxis f) 1 p) (high - 1) in
+    record { width = w .got; height = 1 + h .got; tests = w .tests + h .tests }

@@ -1,0 +1,3 @@
+-- The rule of unit meshing, and its whole outcome.
+
+pub mod Unit
