@@ -8,6 +8,7 @@ mod entry;
 mod faces;
 mod show;
 mod textures;
+mod unit;
 mod vertices;
 
 fn main() {
@@ -18,4 +19,5 @@ fn main() {
     textures::run();
     draw::run();
     entry::run();
+    unit::run();
 }

@@ -1,5 +1,4 @@
 -- To be read in this order.
-
 pub mod Group
 pub mod Merger
 pub mod Greedy

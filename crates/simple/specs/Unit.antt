@@ -40,13 +40,14 @@ pub record UnitOutcome : Type 0 where
   pub answer : UnitAnswer
   pub out : List ℕ
 
+-- The outcome of an answer and an output.
+abbrev pub outcome : UnitAnswer → List ℕ → UnitOutcome
+outcome answer out = record { answer = answer; out = out }
+
 -- The whole outcome of unit meshing. It refuses by 1 to 6 and 8, then by 9; otherwise the answer has the number of quads of each group. Where the entry checks pass the
 -- output holds the listing, as far as it fits.
 unfoldable pub visibleBlockFaces : List ℕ → Point → Point → Point → List OrientedBlockFace → List ℕ → UnitOutcome
 visibleBlockFaces voxels shape min max faces out =
     let entry : Answer (Unit {0}) = checked (unitChecks voxels shape min max faces) in
     let laid : Laid = lay unitNumbers numbersOf (unitGroups (interior min max) (field shape voxels) faces) out in
-    record {
-      answer = unitAnswer (follow entry (laid .answer));
-      out = atExit entry (laid .out) out;
-    }
+    outcome (unitAnswer (follow entry (laid .answer))) (atExit entry (laid .out) out)

@@ -1,6 +1,5 @@
 -- Laws, and what is shown of the contracts themselves. A function's own proof stands in the folder named after it.
 -- Of products and remainders.
-
 pub mod Numbers
 -- Of voxels that show their faces.
 pub mod Voxels
@@ -18,5 +17,11 @@ pub mod Held
 pub mod Steps
 -- What refusal 8 tells its reader.
 pub mod Lowest
+-- Of items written into a buffer.
+pub mod Pushed
+-- Of groups listed one after another.
+pub mod Groups
+-- Of how many times a point stands in a list.
+pub mod Times
 -- That each public contract leaves one outcome.
 pub mod Unique

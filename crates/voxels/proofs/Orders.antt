@@ -1,6 +1,6 @@
 -- Orders of refusals, asked part by part: a part that refuses decides, one that passes leaves it to the next, and a part may be asked again.
 use mathlib.Core.List.{List, _++_}
-use mathlib.Core.Path.{_≡_, refl, sym, _∙_}
+use mathlib.Core.Path.{_≡_, refl, sym, _∙_, ap}
 use Prim.Native.Nat.{ℕ}
 use Rattle.geometry.specs.Refusal.{Answer, accepted, refused, Check, answer, checked, follow}
 use Rattle.geometry.proofs.Refusals.{in-turn, decided}
@@ -27,6 +27,19 @@ module _ {A : Type 0} (cs : List Check) (a : A) where
 
   pub whole-passes : {b : A} → checked cs ≡ accepted tt → b ≡ a → accepted b ≡ answer cs a
   whole-passes e h = rw h (rw e at (sym (decided cs a)))
+
+-- An answer without its value.
+abbrev bare : {A : Type 0} → Answer A → Answer (Unit {0})
+bare (accepted a) = accepted tt
+bare (refused n p) = refused n p
+
+bare-follow : {A : Type 0} (x : Answer (Unit {0})) (a : A) → bare (follow x (accepted a)) ≡ x
+bare-follow (accepted u) a = refl
+bare-follow (refused n p) a = refl
+
+-- A refusal that a call gives is its checks'.
+pub answer-refused : {A : Type 0} (cs : List Check) (a : A) {n p : ℕ} → answer cs a ≡ refused n p → checked cs ≡ refused n p
+answer-refused cs a e = sym (bare-follow (checked cs) a) ∙ ap bare (sym (decided cs a) ∙ e)
 
 -- Checks that have passed may be asked again before the next: nothing changes.
 pub asked-again : {A : Type 0} (bs cs ds : List Check) (a : A) → (checked bs ≡ accepted tt → checked cs ≡ accepted tt)

@@ -12,7 +12,7 @@ use Rattle.geometry.proofs.Refusals.{split}
 use Rattle.voxels.specs.declared.extent.Extent.{Extent}
 use Rattle.voxels.specs.Shape.{index, stride}
 use Rattle.voxels.specs.Extent.{Inside, every, upTo, scan, those, Each}
-use Rattle.voxels.specs.Inner.{gathered, kept, row, rows, slices}
+use Rattle.voxels.specs.Inner.{gathered, kept, row, rows, slices, inStep}
 use Rattle.voxels.proofs.Places.{index-at}
 
 -- ---- what is gathered from a list
@@ -58,10 +58,19 @@ every-same c d g h (suc n) a b same =
     on : {A : Type 0} (a k c : ℕ) (g : ℕ → List A) → g (a + c + k * c) ≡ g (a + suc k * c)
     on a k c g = ap g (omega (arith, suc-mul k c))
 
+-- A loop over a coordinate gives what a loop over it and an index a stride apart gives.
+pub every-in-step : {A : Type 0} (d : ℕ) (h : ℕ → List A) (g : ℕ → ℕ → List A) (n a i : ℕ) → ((k : ℕ) → k < n → h (a + k) ≡ g (a + k) (i + k * d)) → every 1 a n h ≡ inStep d g a i n
+unfolding every inStep
+every-in-step d h g zero a i same = refl
+every-in-step d h g (suc n) a i same =
+    let first : h a ≡ g a i = rw (zero-mul, add-zero, add-zero) at (same 0 (omega arith)) in
+    let rest = every-in-step d h g n (a + 1) (i + d) (λ k l. let x : a + suc k ≡ a + 1 + k = omega arith in let y : i + suc k * d ≡ i + d + k * d = omega (arith, suc-mul k d) in rw (x, y) at (same (suc k) (omega arith))) in
+    rw (first, rest)
+
 -- ---- scan order
 
 -- What is gathered in scan order, as three loops over coordinates.
-gathered-scan : {A : Type 0} (f : Point → List A) (e : Extent) → gathered f (scan e) ≡
+pub gathered-scan : {A : Type 0} (f : Point → List A) (e : Extent) → gathered f (scan e) ≡
     upTo (e .minimum .z) (e .bound .z) (λ (z : ℕ). upTo (e .minimum .y) (e .bound .y) (λ (y : ℕ). upTo (e .minimum .x) (e .bound .x) (λ (x : ℕ). f (at x y z))))
 unfolding scan gathered
 gathered-scan f e =

@@ -1,10 +1,12 @@
 -- The box, its interior, and the order of their points: document 01, 'Voxels and their places', third and fourth point;
 -- simple.rs lines 51 to 56 and 61, greedy.rs 94 to 96, 104 to 106 and 169. The Rust leaves the arithmetic and the order to ilattice (`padded`, `iter3`).
-use mathlib.Core.Bool.{Bool, true, false}
+use mathlib.Core.Bool.{Bool, true, false, _&&_}
 use mathlib.Core.List.{List, [], _∷_, _++_}
 use Prim.Native.Nat.{ℕ, zero, suc, _+_, _-_, _≤_, _<_}
+use lib.Dec.{eqb, leb, ltb}
 use Rattle.geometry.specs.declared.axis.Axis.{Axis}
 use Rattle.geometry.specs.Point.{Point, at, along}
+use Rattle.geometry.specs.Axes.{bit}
 use Rattle.voxels.specs.declared.extent.Extent.{Extent}
 
 -- "The box is min to max, max included": its bound is one past max on each axis.
@@ -44,3 +46,27 @@ those test (a ∷ l) = elim (test a) [ true ↦ a ∷ those test l | false ↦ t
 unfoldable pub Each : {A : Type 0} → (A → Type 0) → List A → Type 0
 Each P [] = Unit {0}
 Each P (a ∷ l) = P a × Each P l
+
+-- Whether a number is one of those from a up to but not with b.
+unfoldable pub between : ℕ → ℕ → ℕ → Bool
+between a b k = leb a k && ltb k b
+
+-- Whether a point lies in an extent.
+unfoldable pub inside : Extent → Point → Bool
+inside e p =
+    (between (e .minimum .x) (e .bound .x) (p .x) && between (e .minimum .y) (e .bound .y) (p .y))
+    && between (e .minimum .z) (e .bound .z) (p .z)
+
+-- Whether two points are one.
+unfoldable pub samePoint : Point → Point → Bool
+samePoint p q = (eqb (p .x) (q .x) && eqb (p .y) (q .y)) && eqb (p .z) (q .z)
+
+-- How many times a point stands in a list.
+unfoldable pub times : Point → List Point → ℕ
+times p [] = 0
+times p (q ∷ l) = bit (samePoint p q) + times p l
+
+-- How many of a list pass a test.
+unfoldable pub howMany : {A : Type 0} → (A → Bool) → List A → ℕ
+howMany test [] = 0
+howMany test (a ∷ l) = bit (test a) + howMany test l

@@ -1,13 +1,16 @@
--- What private functions require and promise. No public contract uses these.
+-- What private functions require and promise, here and in the meshers. No public contract uses these.
 use mathlib.Core.Bool.{Bool, true, false}
 use mathlib.Core.List.{List, [], _∷_, _++_}
-use Prim.Native.Nat.{ℕ, _+_, _*_, _≤_, _<_}
+use Prim.Native.Nat.{ℕ, zero, suc, _+_, _*_, _≤_, _<_}
+use lib.Dec.{ltb}
+use lib.ListN.{length, set}
 use Rattle.geometry.specs.declared.axis.Axis.{Axis}
 use Rattle.geometry.specs.Point.{Point, along}
 use Rattle.geometry.specs.Refusal.{Check}
 use Rattle.voxels.specs.Shape.{size}
 use Rattle.voxels.specs.Extent.{every}
 use Rattle.voxels.specs.Checks.{badVoxelAt}
+use Rattle.voxels.specs.Listing.{capacity}
 
 -- The most voxels that a shape has.
 abbrev pub mostVoxels : ℕ
@@ -25,9 +28,14 @@ unfoldable pub gathered : {A B : Type 0} → (A → List B) → List A → List 
 gathered f [] = []
 gathered f (a ∷ l) = f a ++ gathered f l
 
--- An item where it passes a test, and nothing where it does not.
+-- An item where something holds, and nothing where it does not.
+abbrev pub keptIf : {A : Type 0} → Bool → A → List A
+keptIf true a = a ∷ []
+keptIf false a = []
+
+-- An item where it passes a test.
 unfoldable pub kept : {A : Type 0} → (A → Bool) → A → List A
-kept test a = elim (test a) [ true ↦ a ∷ [] | false ↦ [] ]
+kept test a = keptIf (test a) a
 
 -- What `g` gives at the indices of a row of so many voxels from an index on, end to end.
 unfoldable pub row : {A : Type 0} → (ℕ → List A) → ℕ → ℕ → List A
@@ -54,3 +62,35 @@ pub record RowsLent (lent i wide d high : ℕ) : Type 0 where
 pub record SlicesLent (lent i wide d high e deep : ℕ) : Type 0 where
   pub each : (k : ℕ) → k < deep → RowsLent lent (i + k * e) wide d high
   pub last : i + deep * e ≤ 2 * mostVoxels
+
+-- What `g` gives at a coordinate and an index, at the next coordinate and the index a stride on, .., so many of them, end to end: what a loop that counts both gathers.
+unfoldable pub inStep : {A : Type 0} → ℕ → (ℕ → ℕ → List A) → ℕ → ℕ → ℕ → List A
+inStep d g a i zero = []
+inStep d g a i (suc n) = g a i ++ inStep d g (a + 1) (i + d) n
+
+-- A list's numbers, set in a buffer one after another from a place on.
+abbrev pub setAll : List ℕ → ℕ → List ℕ → List ℕ
+setAll out k [] = out
+setAll out k (x ∷ xs) = setAll (set out k x) (k + 1) xs
+
+-- A buffer that items are written to, and how many were listed, written or not.
+pub record Output : Type 0 where
+  pub out : List ℕ
+  pub listed : ℕ
+
+-- The buffer and the number.
+abbrev pub output : List ℕ → ℕ → Output
+output out listed = record { out = out; listed = listed }
+
+-- An item of so many numbers is listed: it is written where there is room.
+unfoldable pub pushed : {A : Type 0} → ℕ → (A → List ℕ) → Output → A → Output
+pushed numbers numbersOf s a =
+    elim (ltb (s .listed) (capacity numbers (length (s .out)))) [
+      | true ↦ output (setAll (s .out) (s .listed * numbers) (numbersOf a)) (s .listed + 1)
+      | false ↦ output (s .out) (s .listed + 1)
+    ]
+
+-- Items are listed one after another.
+unfoldable pub pushedAll : {A : Type 0} → ℕ → (A → List ℕ) → Output → List A → Output
+pushedAll numbers numbersOf s [] = s
+pushedAll numbers numbersOf s (a ∷ l) = pushedAll numbers numbersOf (pushed numbers numbersOf s a) l

@@ -1,5 +1,4 @@
 -- To be read in this order.
-
 pub mod Voxel
 pub mod Shape
 pub mod Extent

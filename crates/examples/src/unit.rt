@@ -1,0 +1,119 @@
+// Document 01, 'Unit meshing': E1, E7, E8, E12 and E13 as unit meshing. Every output is lent full of
+// 9, so that what was not written shows.
+use crate::show;
+use geometry::axis::SignedAxis;
+use geometry::face::OrientedBlockFace;
+use geometry::vector::UVec3;
+use libc::STDOUT_FILENO;
+
+pub fn run() {
+    one_voxel();
+    two_voxels(b"E7 T7 T7", 16391);
+    two_voxels(b"E8 O7 T7", 32775);
+    spans();
+    refusals();
+}
+
+// The six canonical faces.
+fn six() -> [OrientedBlockFace; 6] {
+    [
+        OrientedBlockFace::canonical(SignedAxis::PosX),
+        OrientedBlockFace::canonical(SignedAxis::NegX),
+        OrientedBlockFace::canonical(SignedAxis::PosY),
+        OrientedBlockFace::canonical(SignedAxis::NegY),
+        OrientedBlockFace::canonical(SignedAxis::PosZ),
+        OrientedBlockFace::canonical(SignedAxis::NegZ),
+    ]
+}
+
+// E1 and E12: one opaque voxel, with room for six quads, for five, and one number short of six.
+fn one_voxel() {
+    let mut block = [0u16; 27];
+    let mut none = [9u32; 2];
+    meshed(b"all empty, capacity 0", &block, 3, 3, 3, &mut none);
+    block[13] = 32775;
+    let mut whole = [9u32; 20];
+    meshed(b"E1", &block, 3, 3, 3, &mut whole);
+    let mut short = [9u32; 17];
+    meshed(b"E12 capacity 5", &block, 3, 3, 3, &mut short);
+    meshed(b"E12 capacity 0", &block, 3, 3, 3, &mut none);
+}
+
+// E7 and E8: a voxel and a translucent one beside it on x.
+fn two_voxels(name: &[u8], first: u16) {
+    let mut block = [0u16; 36];
+    block[17] = first;
+    block[18] = 16391;
+    let mut out = [9u32; 36];
+    meshed(name, &block, 4, 3, 3, &mut out);
+}
+
+// E13: a span of two has no interior, a span of one is refused.
+fn spans() {
+    let block = [32775u16; 8];
+    let mut out = [9u32; 3];
+    meshed(b"E13 span 2", &block, 2, 2, 2, &mut out);
+    meshed(b"E13 span 1", &block, 2, 1, 2, &mut out);
+}
+
+// A refused call touches nothing: too few voxels, and a bad voxel on the boundary.
+fn refusals() {
+    let mut block = [32775u16; 27];
+    let mut out = [9u32; 3];
+    meshed(b"26 voxels lent of 27", &block[0..26], 3, 3, 3, &mut out);
+    block[2] = 49152;
+    meshed(b"a bad voxel at (2,0,0)", &block, 3, 3, 3, &mut out);
+}
+
+// A block whose box covers the whole shape: the answer, and the whole output.
+fn meshed(name: &[u8], block: &[u16], x: u32, y: u32, z: u32, out: &mut [u32]) {
+    show::text(name);
+    show::text(b", unit:");
+    let shape = UVec3 { x, y, z };
+    let min = UVec3 { x: 0, y: 0, z: 0 };
+    let max = UVec3 {
+        x: last(x),
+        y: last(y),
+        z: last(z),
+    };
+    let answer = simple::visible_block_faces(block, shape, min, max, six(), &mut *out);
+    if answer.refusal != 0 {
+        show::refused(answer.refusal);
+        show::text(b" at ");
+        io::print_decimal(STDOUT_FILENO, answer.place);
+        show::text(b",");
+    }
+    show::text(b" counts");
+    let counts = answer.counts;
+    count(counts[0]);
+    count(counts[1]);
+    count(counts[2]);
+    count(counts[3]);
+    count(counts[4]);
+    count(counts[5]);
+    show::text(b", out");
+    numbers(out);
+    show::end();
+}
+
+fn count(n: u64) {
+    show::text(b" ");
+    io::print_decimal(STDOUT_FILENO, n);
+}
+
+// The number before another, or 0.
+fn last(n: u32) -> u32 {
+    if n == 0 {
+        return 0;
+    }
+    n - 1
+}
+
+fn numbers(out: &[u32]) {
+    let mut k: usize = 0;
+    while k < out.len() {
+        show::text(b" ");
+        show::number(out[k]);
+        k += 1;
+    }
+}

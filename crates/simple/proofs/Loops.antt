@@ -1,0 +1,97 @@
+-- Loops that list quads: what is listed and what is left make the whole.
+use mathlib.Core.Bool.{Bool, true, false}
+use mathlib.Core.List.{List, []}
+use mathlib.Core.Path.{_≡_, refl, sym, _∙_, ap}
+use Prim.Native.Nat.{ℕ, _+_, _-_, _*_, _≤_, _<_}
+use native.Mathlib.Nat.{sub-zero, add-zero, add-assoc}
+use native.Mathlib.Omega.{arith}
+use lib.IntN.{pos}
+use lib.ListN.{length, getD}
+use Rattle.geometry.specs.declared.axis.AxisPermutation.the-variants.{Xyz}
+use Rattle.geometry.specs.declared.face.OrientedBlockFace.{OrientedBlockFace}
+use Rattle.geometry.specs.Point.{Point, at}
+use Rattle.voxels.specs.Inner.{inStep, Output, output, pushed, pushedAll}
+use Rattle.geometry.specs.Refusal.{accepted, refused}
+use Rattle.voxels.specs.Listing.{joined, capacity, lay}
+use Rattle.voxels.specs.Voxel.{shows}
+use Rattle.voxels.specs.Visible.{offsetIndex}
+use Rattle.voxels.proofs.Asked.{more, done}
+use Rattle.voxels.proofs.Pushed.{pushed-append, pushed-counts, all-laid, lay-many, lay-fits}
+use Rattle.simple.specs.Unit.{unitNumbers, numbersOf, unitAnswer, outcome}
+use Rattle.simple.specs.declared.UnitAnswer.{UnitAnswer}
+use Rattle.simple.specs.Inner.{showsAt, voxelQuad, MadeGroups, laidOutcome}
+
+-- A unit quad has three numbers.
+pub three : (p : Point) → length (numbersOf p) ≡ unitNumbers
+three p = refl
+
+-- Unit quads, listed.
+abbrev pub listed-all : Output → List Point → Output
+listed-all = pushedAll unitNumbers numbersOf
+
+-- A loop over a coordinate and an index a stride apart, k of n done.
+module _ (d : ℕ) (g : ℕ → ℕ → List Point) where
+  pub list-start : (s : Output) (a i n : ℕ) → listed-all s (inStep d g (a + 0) i (n - 0)) ≡ listed-all s (inStep d g a i n)
+  list-start s a i n = rw (sub-zero, add-zero)
+
+  pub list-on : (s s′ t : Output) (a i k n : ℕ) → k < n → s′ ≡ listed-all s (g (a + k) i) → listed-all s (inStep d g (a + k) i (n - k)) ≡ t
+      → listed-all s′ (inStep d g (a + (k + 1)) (i + d) (n - (k + 1))) ≡ t
+  unfolding inStep
+  list-on s s′ t a i k n h is e =
+      rw (is, ← add-assoc a k 1) (sym (pushed-append unitNumbers numbersOf s (g (a + k) i) (inStep d g (a + k + 1) (i + d) (n - (k + 1)))) ∙ rw (more k n h) at e)
+
+  pub list-done : (s t : Output) (a i k n : ℕ) → n ≤ k → listed-all s (inStep d g (a + k) i (n - k)) ≡ t → s ≡ t
+  unfolding inStep pushedAll
+  list-done s t a i k n h e = rw (done k n h) at e
+
+-- A voxel that shows nothing lists nothing, and one that shows its face lists its quad.
+module _ (vs : List ℕ) (offset y z x i j : ℕ) (shown : Bool) (at-j : j ≡ offsetIndex i offset) (is : shown ≡ shows (getD vs i 0) (getD vs j 0)) (s : Output) where
+  pub voxel-hidden : shown ≡ false → s ≡ listed-all s (voxelQuad vs offset y z x i)
+  unfolding voxelQuad showsAt pushedAll
+  voxel-hidden e = rw (← at-j, ← is, e)
+
+  pub voxel-listed : {t : Output} → shown ≡ true → t ≡ pushed unitNumbers numbersOf s (at x y z) → t ≡ listed-all s (voxelQuad vs offset y z x i)
+  unfolding voxelQuad showsAt pushedAll
+  voxel-listed e h = rw (← at-j, ← is, e) h
+
+-- What is listed is one more.
+pub one-more : (s : Output) (p : Point) {out : List ℕ} {n : ℕ} → output out n ≡ pushed unitNumbers numbersOf s p → n ≤ s .listed + 1
+one-more s p e = omega (arith, ap (λ (o : Output). o .listed) e, pushed-counts unitNumbers numbersOf s p)
+
+-- Nothing listed changes nothing.
+pub none-pushed : (s : Output) {l : List Point} → l ≡ [] → s ≡ listed-all s l
+unfolding pushedAll
+none-pushed s e = rw e
+
+-- A loop's bound on what is listed, at its end.
+pub at-end : (n₀ d k n m : ℕ) → m ≤ k → k ≤ m → n ≤ n₀ + k * d → n ≤ n₀ + m * d
+at-end n₀ d k n m h l b = let e : k ≡ m = omega arith in omega (arith, ap (λ (j : ℕ). j * d) e)
+
+-- What stands past the end of a list of faces.
+abbrev pub noFace : OrientedBlockFace
+noFace = record { «n_sign» = pos 0; permutation = Xyz }
+
+-- ---- the answer
+
+module _ (groups : List (List Point)) (was out : List ℕ) (listed : ℕ) (counts : List ℕ) (made : MadeGroups groups was out listed counts) where
+  laid-is : output out listed ≡ output (lay unitNumbers numbersOf groups was .out) (length (joined groups))
+  laid-is = made .is ∙ all-laid unitNumbers numbersOf (omega arith) three groups was
+
+  -- More than fit are refused, with the first written,
+  pub many-laid : (r : UnitAnswer) (room : ℕ) → room ≡ capacity unitNumbers (length was) → room < listed → r ≡ unitAnswer (refused 9 room)
+      → outcome r out ≡ laidOutcome (lay unitNumbers numbersOf groups was)
+  many-laid r room is h e =
+      let some : capacity unitNumbers (length was) < length (joined groups) = omega (arith, ap (λ (o : Output). o .listed) laid-is) in
+      let a : r ≡ unitAnswer (lay unitNumbers numbersOf groups was .answer) = e ∙ ap unitAnswer (ap (refused 9) is ∙ sym (lay-many unitNumbers numbersOf groups was some)) in
+      let o : out ≡ lay unitNumbers numbersOf groups was .out = ap (λ (s : Output). s .out) laid-is in
+      rw (a, o)
+
+  -- and what fits is counted.
+  pub all-fit : (room : ℕ) → room ≡ capacity unitNumbers (length was) → listed ≤ room
+      → outcome (record { refusal = 0; place = 0; counts = counts }) out ≡ laidOutcome (lay unitNumbers numbersOf groups was)
+  all-fit room is h =
+      let fits : length (joined groups) ≤ capacity unitNumbers (length was) = omega (arith, ap (λ (o : Output). o .listed) laid-is) in
+      let a : record { refusal = 0; place = 0; counts = counts } ≡ unitAnswer (lay unitNumbers numbersOf groups was .answer) =
+      ap (λ (c : List ℕ). unitAnswer (accepted c)) (made .each) ∙ ap unitAnswer (sym (lay-fits unitNumbers numbersOf groups was fits)) in
+      let o : out ≡ lay unitNumbers numbersOf groups was .out = ap (λ (s : Output). s .out) laid-is in
+      rw (a, o)

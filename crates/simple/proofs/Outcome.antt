@@ -1,0 +1,52 @@
+-- From the entry to the whole outcome: what a refused entry leaves, what an accepted one is known to be, and what it leaves.
+use mathlib.Core.List.{List, _++_}
+use mathlib.Core.Path.{_≡_, sym, _∙_, ap}
+use Prim.Native.Nat.{ℕ}
+use lib.ListN.{length}
+use Rattle.geometry.specs.declared.face.OrientedBlockFace.{OrientedBlockFace}
+use Rattle.geometry.specs.Point.{Point}
+use Rattle.geometry.specs.Refusal.{accepted, refused, Check, answer}
+use Rattle.geometry.proofs.Refusals.{accepts-value, accepts-checked}
+use Rattle.voxels.specs.declared.bounds.Entry.{Entry}
+use Rattle.voxels.specs.Shape.{field}
+use Rattle.voxels.specs.Extent.{interior}
+use Rattle.voxels.specs.Checks.{boundsChecks, badFaces, badVoxels, unitChecks}
+use Rattle.voxels.specs.Listing.{lay}
+use Rattle.voxels.specs.Answers.{entry}
+use Rattle.voxels.proofs.Orders.{both-pass, answer-refused}
+use Rattle.voxels.proofs.Held.{bounds-held}
+use Rattle.simple.specs.declared.UnitAnswer.{UnitAnswer}
+use Rattle.simple.specs.Unit.{unitNumbers, numbersOf, unitGroups, unitAnswer, UnitOutcome, outcome, visibleBlockFaces}
+use Rattle.simple.specs.Inner.{Entered, laidOutcome}
+
+module _ (voxels : List ℕ) (shape min max : Point) (faces : List OrientedBlockFace) where
+  abbrev checks : List Check
+  checks = unitChecks voxels shape min max faces
+
+  -- A refused entry leaves the output as it was.
+  pub refused-outcome : (out : List ℕ) (r : UnitAnswer) {n p : ℕ} → answer checks (entry shape min max) ≡ refused n p → r ≡ unitAnswer (refused n p)
+      → outcome r out ≡ visibleBlockFaces voxels shape min max faces out
+  unfolding visibleBlockFaces
+  refused-outcome out r e is = rw (answer-refused checks (entry shape min max) e, is)
+
+  module _ (e : Entry) (enters : answer checks (entry shape min max) ≡ accepted e) where
+    -- The interior that an accepted entry gives is that of a box that passed the checks.
+    interior-is : e .interior ≡ interior min max
+    interior-is = ap (λ (e : Entry). e .interior) (sym (accepts-value checks (entry shape min max) enters))
+
+    pub is-entered : Entered (length voxels) shape (e .interior)
+    is-entered =
+        let bounds = boundsChecks (length voxels) shape min max in
+        let passed = accepts-checked checks (entry shape min max) enters in
+        record {
+          min = min;
+          max = max;
+          is = interior-is;
+          held = bounds-held shape (length voxels) min max (both-pass bounds (badFaces faces) (both-pass (bounds ++ badFaces faces) (badVoxels voxels shape min max) passed .0) .0);
+        }
+
+    -- It leaves what laying the groups leaves.
+    pub entered-outcome : (out : List ℕ) {o : UnitOutcome} → o ≡ laidOutcome (lay unitNumbers numbersOf (unitGroups (e .interior) (field shape voxels) faces) out)
+        → o ≡ visibleBlockFaces voxels shape min max faces out
+    unfolding visibleBlockFaces
+    entered-outcome out h = h ∙ rw (accepts-checked checks (entry shape min max) enters, interior-is)
