@@ -12,6 +12,37 @@ pub fn run() {
     two_voxels(b"E8 O7 T7", 32775);
     spans();
     refusals();
+    readme();
+}
+
+// README's function.
+pub fn looks_up(voxels: &[u16], out: &mut [u32]) -> u64 {
+    let shape = UVec3 { x: 3, y: 3, z: 3 };
+    let min = UVec3 { x: 0, y: 0, z: 0 };
+    let max = UVec3 { x: 2, y: 2, z: 2 };
+    let up = OrientedBlockFace::canonical(SignedAxis::PosZ);
+    let answer = simple::visible_block_faces(
+        voxels,
+        shape,
+        min,
+        max,
+        [up, up, up, up, up, up],
+        out,
+    );
+    let counts = answer.counts;
+    counts[0]
+}
+
+fn readme() {
+    let mut block = [0u16; 27];
+    block[13] = 32775;
+    let mut out = [9u32; 18];
+    show::text(b"README's looks_up of E1:");
+    count(looks_up(&block, &mut out));
+    show::text(b", and with an empty output:");
+    let mut none = [9u32; 0];
+    count(looks_up(&block, &mut none));
+    show::end();
 }
 
 // The six canonical faces.

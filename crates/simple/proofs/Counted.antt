@@ -28,20 +28,20 @@ unfolding shows
 shown-is v w own other is-own is-other h l =
     rw (← is-own, ← is-other)
     (split (eqb own 0)
-      (λ t. let e = eqb-true own 0 t in rw t (omega arith))
-      (λ f.
-        let d = eqb-false own 0 f in
-        split (eqb other 0)
-        (λ t. let e = eqb-true other 0 t in rw (f, t) (omega arith))
-        (λ g.
-          let n = eqb-false other 0 g in
-          split (eqb other 1)
-          (λ t.
-            let e = eqb-true other 1 t in
-            split (eqb own 2)
-            (λ u. let m = eqb-true own 2 u in rw (f, g, t, u) (omega arith))
-            (λ u. let m = eqb-false own 2 u in rw (f, g, t, u) (omega arith)))
-          (λ t. let e = eqb-false other 1 t in rw (f, g, t) (omega arith)))))
+    (λ t. let e = eqb-true own 0 t in rw t (omega arith))
+    (λ f.
+    let d = eqb-false own 0 f in
+    split (eqb other 0)
+    (λ t. let e = eqb-true other 0 t in rw (f, t) (omega arith))
+    (λ g.
+    let n = eqb-false other 0 g in
+    split (eqb other 1)
+    (λ t.
+    let e = eqb-true other 1 t in
+    split (eqb own 2)
+    (λ u. let m = eqb-true own 2 u in rw (f, g, t, u) (omega arith))
+    (λ u. let m = eqb-false own 2 u in rw (f, g, t, u) (omega arith)))
+    (λ t. let e = eqb-false other 1 t in rw (f, g, t) (omega arith)))))
 
 bit-at-most : (b : Bool) → bit b ≤ 1
 bit-at-most true = omega arith
@@ -75,7 +75,7 @@ module _ (lent offset i wide : ℕ) (ready : RowReady lent offset i wide) where
 
   -- So the two rows were lent.
   pub beside : (j : ℕ) → j ≡ offsetIndex i offset → Beside lent i j wide
-  beside j e = record { here = ready .here; beyond = λ k h. rw (e, beyond-at k h) (ready .beyond k h) }
+  beside j e = record { here = ready .here; beyond = λ k h. rw (e, beyond-at k h) (ready .beyond k h); short = ready .short }
 
 -- A row that shows nothing lists nothing.
 none-listed : (vs : List ℕ) (offset y z : ℕ) (n x i j : ℕ) → ((k : ℕ) → k < n → j + k ≡ offsetIndex (i + k) offset) → shownBeside vs i j n ≡ 0

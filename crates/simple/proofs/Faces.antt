@@ -80,6 +80,7 @@ module _ (shape : Point) (lent : ℕ) (min max : Point) (h : Held shape lent min
   row-ready j k hj hk = record {
     here = λ i hi. omega (arith, h .enough, at-below i j k (omega arith) (omega arith) (omega arith));
     beyond = λ i hi. omega (arith, h .enough, beyond-below i j k hi hj hk);
+    short = omega (arith, h .spans X, h .within X, h .short X);
     near = λ some. omega (arith, h .small, h .spans X, h .within X, axis-small shape lent min max h X, rw add-zero at (beyond-below 0 j k some hj hk));
   }
 

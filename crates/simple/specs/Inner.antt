@@ -11,7 +11,7 @@ use Rattle.voxels.specs.Voxel.{shows}
 use Rattle.voxels.specs.Extent.{interior}
 use Rattle.voxels.specs.Listing.{joined, Laid}
 use Rattle.voxels.specs.Visible.{modulus, offsetIndex}
-use Rattle.voxels.specs.Inner.{mostVoxels, Held, keptIf, inStep, Output, output, pushedAll}
+use Rattle.voxels.specs.Inner.{mostVoxels, longest, Held, keptIf, inStep, Output, output, pushedAll}
 use Rattle.simple.specs.Unit.{unitNumbers, numbersOf, unitAnswer, UnitOutcome, outcome}
 
 -- ---- what the loops list, by indices and coordinates
@@ -47,16 +47,18 @@ slicesQuads voxels offset x wide y d high z e deep i = inStep e (sliceQuads voxe
 abbrev pub mostListed : ℕ
 mostListed = 16 * mostVoxels
 
--- The voxels of two rows were lent.
+-- The voxels of two rows were lent, and a row is short enough to be counted.
 pub record Beside (lent i j wide : ℕ) : Type 0 where
   pub here : (k : ℕ) → k < wide → i + k < lent
   pub beyond : (k : ℕ) → k < wide → j + k < lent
+  pub short : wide ≤ longest
 
 -- The voxels of a row and their neighbours were lent, and the neighbours' indices do not wrap on the way.
 pub record RowReady (lent offset i wide : ℕ) : Type 0 where
   pub here : (k : ℕ) → k < wide → i + k < lent
   pub beyond : (k : ℕ) → k < wide → offsetIndex (i + k) offset < lent
   pub near : 0 < wide → offsetIndex i offset + wide < modulus
+  pub short : wide ≤ longest
 
 -- So of so many rows, a stride apart that is not shorter than a row.
 pub record SliceReady (lent offset i wide d high : ℕ) : Type 0 where

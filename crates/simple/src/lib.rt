@@ -48,17 +48,17 @@ fn shown(voxel: u16, neighbor: u16) -> u16
 }
 
 // How many voxels of a row show their faces to the row beyond.
-fn count_row(voxels: &[u16], start: VoxelIndex, beyond: VoxelIndex, wide: u32) -> u32
+fn count_row(voxels: &[u16], start: VoxelIndex, beyond: VoxelIndex, wide: u32) -> u16
     requires { ⌜ Beside (length (now voxels)) (start .0) (beyond .0) wide ⌝ }
     ensures { λ r. ⌜ r ≡ shownBeside (now (voxels .entry)) (start .0) (beyond .0) wide ⌝ }
 {
     let i = start.0 as usize;
     let j = beyond.0 as usize;
-    let mut count: u32 = 0;
+    let mut count: u16 = 0;
     let mut k: usize = 0;
     let n = wide as usize;
     while k < n {
-        count += shown(voxels[i + k], voxels[j + k]) as u32;
+        count += shown(voxels[i + k], voxels[j + k]);
         k += 1;
     }
     count

@@ -53,6 +53,7 @@ bounds-held shape lent min max h =
     let h3 = both-pass (badShape shape ++ fewVoxels lent shape) (minAboveMax min max) (h4 .0) in
     let h2 = both-pass (badShape shape) (fewVoxels lent shape) (h3 .0) in
     record {
+      short = λ a. omega (arith, axis-at-most (along a shape) (axes-pass 1 (λ a. badAxis (along a shape)) (h2 .0) a));
       small = shape-small shape (axes-pass 1 (λ a. badAxis (along a shape)) (h2 .0));
       enough = ltb-false lent (size shape) (first-passes _ _ _ (h2 .1));
       spans = λ a.

@@ -16,9 +16,14 @@ use Rattle.voxels.specs.Listing.{capacity}
 abbrev pub mostVoxels : ℕ
 mostVoxels = 16_777_216
 
+-- No axis is longer, so that the voxels of a row are counted in 16 bits.
+abbrev pub longest : ℕ
+longest = 65_535
+
 -- What checks 1 to 5 leave: the box lies in the shape, spans two voxels or more on each axis, and every voxel was lent.
 pub record Held (shape : Point) (lent : ℕ) (min max : Point) : Type 0 where
   pub small : size shape ≤ mostVoxels
+  pub short : (a : Axis) → along a shape ≤ longest
   pub enough : size shape ≤ lent
   pub spans : (a : Axis) → along a min < along a max
   pub within : (a : Axis) → along a max < along a shape

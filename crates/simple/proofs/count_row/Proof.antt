@@ -44,9 +44,6 @@ shared-slice-read-shown-2 c = c .before .before .before .before .before .before 
 shown-requires : tie.Need-shown-requires Inv-loop μ-loop
 shown-requires c κs = search needs
 
-cast-count : tie.Need-cast-count Inv-loop μ-loop
-cast-count c = search needs
-
 add-count : tie.Need-add-count Inv-loop μ-loop
 add-count c = let a = c .before .before .before .before .before .before .before .before .args in record { fits = omega (arith, count-small (a .voxels .now) (a .start .0) (a .beyond .0) _ _ _ (c .shown .ensures) (c .before .before .before .before .loop .inv .1)) }
 
@@ -80,7 +77,6 @@ count-row-spec =
     mul-shown-2
     shared-slice-read-shown-2
     shown-requires
-    cast-count
     add-count
     add-k
     loop-less
