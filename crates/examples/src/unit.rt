@@ -57,7 +57,8 @@ fn six() -> [OrientedBlockFace; 6] {
     ]
 }
 
-// E1 and E12: one opaque voxel, with room for six quads, for five, and one number short of six.
+// E1 and E12: no voxel and one opaque voxel, with room for six quads, for five (one number short of
+// six) and for none.
 fn one_voxel() {
     let mut block = [0u16; 27];
     let mut none = [9u32; 2];
@@ -85,6 +86,9 @@ fn spans() {
     let mut out = [9u32; 3];
     meshed(b"E13 span 2", &block, 2, 2, 2, &mut out);
     meshed(b"E13 span 1", &block, 2, 1, 2, &mut out);
+    let long = [32775u16; 1028];
+    meshed(b"E13 axis 256", &long, 256, 2, 2, &mut out);
+    meshed(b"E13 axis 257", &long, 257, 2, 2, &mut out);
 }
 
 // A refused call touches nothing: too few voxels, and a bad voxel on the boundary.

@@ -1,4 +1,4 @@
--- What it means that a contract leaves one outcome, and that answers which mean the same are the same. Every crate's uniqueness theorems share these.
+-- What it means that a contract leaves one outcome, and that answers which mean the same are the same. The uniqueness theorems of functions that are lent nothing to write share these.
 use mathlib.Core.Path.{_≡_, sym, _∙_, ap}
 use Prim.Native.Nat.{ℕ}
 use Rattle.geometry.specs.Refusal.{Answer, accepted, refused}

@@ -11,6 +11,7 @@ use Rattle.geometry.specs.declared.axis.AxisPermutation.the-variants.{Xyz}
 use Rattle.geometry.specs.declared.face.OrientedBlockFace.{OrientedBlockFace}
 use Rattle.geometry.specs.Point.{Point, at}
 use Rattle.voxels.specs.Inner.{inStep, Output, output, pushed, pushedAll}
+use Rattle.geometry.specs.Axes.{bit}
 use Rattle.geometry.specs.Refusal.{accepted, refused}
 use Rattle.voxels.specs.Listing.{joined, capacity, lay}
 use Rattle.voxels.specs.Voxel.{shows}
@@ -44,15 +45,23 @@ module _ (d : ℕ) (g : ℕ → ℕ → List Point) where
   unfolding inStep pushedAll
   list-done s t a i k n h e = rw (done k n h) at e
 
--- A voxel that shows nothing lists nothing, and one that shows its face lists its quad.
-module _ (vs : List ℕ) (offset y z x i j : ℕ) (shown : Bool) (at-j : j ≡ offsetIndex i offset) (is : shown ≡ shows (getD vs i 0) (getD vs j 0)) (s : Output) where
-  pub voxel-hidden : shown ≡ false → s ≡ listed-all s (voxelQuad vs offset y z x i)
-  unfolding voxelQuad showsAt pushedAll
-  voxel-hidden e = rw (← at-j, ← is, e)
+bit-none : (b : Bool) → 0 ≡ bit b → b ≡ false
+bit-none true e = cc
+bit-none false e = refl
 
-  pub voxel-listed : {t : Output} → shown ≡ true → t ≡ pushed unitNumbers numbersOf s (at x y z) → t ≡ listed-all s (voxelQuad vs offset y z x i)
+bit-some : (b : Bool) → (0 ≡ bit b → ⊥) → b ≡ true
+bit-some true d = refl
+bit-some false d = absurd (d refl)
+
+-- A voxel that shows nothing lists nothing, and one that shows its face lists its quad.
+module _ (vs : List ℕ) (offset y z x i j shown : ℕ) (at-j : j ≡ offsetIndex i offset) (is : shown ≡ bit (shows (getD vs i 0) (getD vs j 0))) (s : Output) where
+  pub voxel-hidden : shown ≡ 0 → s ≡ listed-all s (voxelQuad vs offset y z x i)
   unfolding voxelQuad showsAt pushedAll
-  voxel-listed e h = rw (← at-j, ← is, e) h
+  voxel-hidden e = rw (← at-j, bit-none (shows (getD vs i 0) (getD vs j 0)) (sym e ∙ is))
+
+  pub voxel-listed : {t : Output} → (shown ≡ 0 → ⊥) → t ≡ pushed unitNumbers numbersOf s (at x y z) → t ≡ listed-all s (voxelQuad vs offset y z x i)
+  unfolding voxelQuad showsAt pushedAll
+  voxel-listed d h = rw (← at-j, bit-some (shows (getD vs i 0) (getD vs j 0)) (λ e. d (is ∙ sym e))) h
 
 -- What is listed is one more.
 pub one-more : (s : Output) (p : Point) {out : List ℕ} {n : ℕ} → output out n ≡ pushed unitNumbers numbersOf s p → n ≤ s .listed + 1

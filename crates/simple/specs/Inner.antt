@@ -43,7 +43,7 @@ slicesQuads voxels offset x wide y d high z e deep i = inStep e (sliceQuads voxe
 
 -- ---- what the loops ask for
 
--- No more quads than this are ever listed, and so many more fit.
+-- An ample bound on how many quads are listed: a call lists at most six times as many as a shape has voxels.
 abbrev pub mostListed : ℕ
 mostListed = 16 * mostVoxels
 

@@ -1,7 +1,9 @@
 // Unit meshing: a unit quad for every visible face of a block, after simple.rs.
 //
-// A face at a time, rows in memory order. A row is first counted, which takes no branch, and walked
-// again only where it shows something. Strides are computed once a face.
+// The Rust makes one pass over the voxels and appends to six vectors. Here the groups lie end to end
+// in one lent output, so a face is meshed at a time, rows in memory order. A row is first counted,
+// which takes no branch, and walked again only where it shows something. The visibility offset, an
+// entry of the Rust's `kernel_strides`, and the strides are computed once a face.
 ghost use mathlib.Core.Path.{_≡_};
 ghost use Prim.Native.Nat.{_+_, _*_, _<_, _≤_};
 ghost use lib.ListN.{length};
@@ -36,8 +38,9 @@ pub struct UnitAnswer {
     pub counts: [u64; 6],
 }
 
-// 1 where a voxel shows its face to its neighbor, else 0, by arithmetic alone, so that a row is
-// counted without a branch: of the classes 0 to 2 the higher shows to the lower, and 3 counts as 1.
+// 1 where a voxel shows its face to its neighbor, else 0: `voxel::shows_face` by arithmetic alone, so
+// that a row is counted without a branch. Of the classes 0 to 2 the higher shows to the lower; a
+// voxel of class 3, which refusal 8 keeps out, would show as one of class 1.
 fn shown(voxel: u16, neighbor: u16) -> u16
     ensures { λ r. ⌜ r ≡ bit (shows voxel neighbor) ⌝ }
 {
@@ -47,7 +50,8 @@ fn shown(voxel: u16, neighbor: u16) -> u16
     1 - (4 + other - seen) / 4
 }
 
-// How many voxels of a row show their faces to the row beyond.
+// How many voxels of a row show their faces to the row beyond. 16 bits are enough, since no axis is
+// longer.
 fn count_row(voxels: &[u16], start: VoxelIndex, beyond: VoxelIndex, wide: u32) -> u16
     requires { ⌜ Beside (length (now voxels)) (start .0) (beyond .0) wide ⌝ }
     ensures { λ r. ⌜ r ≡ shownBeside (now (voxels .entry)) (start .0) (beyond .0) wide ⌝ }
@@ -100,7 +104,7 @@ fn push_voxel(
     let neighbor = index.offset(offset);
     let i = index.0 as usize;
     let j = neighbor.0 as usize;
-    if !voxel::shows_face(voxels[i], voxels[j]) {
+    if shown(voxels[i], voxels[j]) == 0 {
         return listed;
     }
     push(out, capacity, listed, x, y, z)
@@ -227,9 +231,9 @@ fn mesh_slices(
 {
     let step = z_stride.0;
     let mut n = listed;
-    let mut k: u32 = 0;
+    let mut slice: u32 = 0;
     let mut i = start.0;
-    while k < deep {
+    while slice < deep {
         n = mesh_slice(
             voxels,
             out,
@@ -242,9 +246,9 @@ fn mesh_slices(
             y,
             y_stride,
             high,
-            z + k,
+            z + slice,
         );
-        k += 1;
+        slice += 1;
         i += step;
     }
     n
@@ -339,27 +343,6 @@ fn refused(number: u32, place: u64) -> UnitAnswer
     }
 }
 
-// A unit quad for every visible face of a voxel in the interior of the box from `min` to `max`: six
-// groups of minima in scan order, end to end in `out`, three numbers a quad.
-pub fn visible_block_faces(
-    voxels: &[u16],
-    voxels_shape: UVec3,
-    min: UVec3,
-    max: UVec3,
-    faces: [OrientedBlockFace; 6],
-    out: &mut [u32],
-) -> UnitAnswer
-    ensures { λ r. ⌜ outcome r (now (out .exit)) ≡ visibleBlockFaces (now (voxels .entry)) «voxels_shape» min max faces (now (out .entry)) ⌝ }
-{
-    match bounds::enter_unit(voxels, voxels_shape, min, max, faces) {
-        EntryAnswer::Refused(number, place) => refused(number, place),
-        EntryAnswer::Entered(entry) => {
-            let interior = entry.interior;
-            mesh(voxels, voxels_shape, interior, faces, out)
-        }
-    }
-}
-
 // The answer of an accepted call, and what it lists.
 fn mesh(
     voxels: &[u16],
@@ -382,5 +365,26 @@ fn mesh(
         refusal: 0,
         place: 0,
         counts,
+    }
+}
+
+// A unit quad for every visible face of a voxel in the interior of the box from `min` to `max`: six
+// groups of minima in scan order, end to end in `out`, three numbers a quad.
+pub fn visible_block_faces(
+    voxels: &[u16],
+    voxels_shape: UVec3,
+    min: UVec3,
+    max: UVec3,
+    faces: [OrientedBlockFace; 6],
+    out: &mut [u32],
+) -> UnitAnswer
+    ensures { λ r. ⌜ outcome r (now (out .exit)) ≡ visibleBlockFaces (now (voxels .entry)) «voxels_shape» min max faces (now (out .entry)) ⌝ }
+{
+    match bounds::enter_unit(voxels, voxels_shape, min, max, faces) {
+        EntryAnswer::Refused(number, place) => refused(number, place),
+        EntryAnswer::Entered(entry) => {
+            let interior = entry.interior;
+            mesh(voxels, voxels_shape, interior, faces, out)
+        }
     }
 }

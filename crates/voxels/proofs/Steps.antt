@@ -55,11 +55,7 @@ along-next Z p = refl
 -- ---- interior, box and shape
 
 module _ (min max : Point) where
-  -- An interior point lies in the box,
-  pub interior-in-box : (p : Point) → Inside (interior min max) p → Inside (box min max) p
-  interior-in-box p i b = let lies = i b in (omega (arith, along-next b min), omega (arith, along-next b max))
-
-  -- and so does every neighbour of it.
+  -- Every neighbour of an interior point lies in the box.
   pub neighbour-in-box : (up : Bool) (a : Axis) (p : Point) → Inside (interior min max) p → Inside (box min max) (stepped up a p)
   neighbour-in-box up a p i b =
       let lies = i b in

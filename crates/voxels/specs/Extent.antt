@@ -51,7 +51,7 @@ Each P (a ∷ l) = P a × Each P l
 unfoldable pub between : ℕ → ℕ → ℕ → Bool
 between a b k = leb a k && ltb k b
 
--- Whether a point lies in an extent.
+-- Whether a point lies in an extent: the test for `Inside` (proofs/Times.antt, `inside-true` and `inside-yes`).
 unfoldable pub inside : Extent → Point → Bool
 inside e p =
     (between (e .minimum .x) (e .bound .x) (p .x) && between (e .minimum .y) (e .bound .y) (p .y))

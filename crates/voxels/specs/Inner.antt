@@ -20,7 +20,7 @@ mostVoxels = 16_777_216
 abbrev pub longest : ℕ
 longest = 65_535
 
--- What checks 1 to 5 leave: the box lies in the shape, spans two voxels or more on each axis, and every voxel was lent.
+-- What checks 1 to 5 leave: the shape is small, its axes are short, every voxel was lent, and the box spans two voxels or more on each axis and lies in the shape.
 pub record Held (shape : Point) (lent : ℕ) (min max : Point) : Type 0 where
   pub small : size shape ≤ mostVoxels
   pub short : (a : Axis) → along a shape ≤ longest

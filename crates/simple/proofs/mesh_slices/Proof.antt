@@ -30,18 +30,18 @@ mesh-slice-requires c κs =
     let l = c .before .before .loop in
     let h = c .before .before .before .before .before .pre in
     let taken = c .before .loop-test .taken in
-    let place = below-last (a .start .0) (l .k) (a .deep) (a .z-stride .0) (l .i) taken (l .inv .1) in
-    let most = below-last (a .listed) (l .k) (a .deep) (a .z-stride .0) (a .listed + l .k * a .z-stride .0) taken refl in
-    ((rw (l .inv .2) (h .0 .0), omega (arith, h .0 .1, h .1 .0 .apart)), (rw (l .inv .1) (h .1 .0 .each (l .k) taken), (h .1 .1 .0, h .1 .1 .1)))
+    let place = below-last (a .start .0) (l .slice) (a .deep) (a .z-stride .0) (l .i) taken (l .inv .1) in
+    let most = below-last (a .listed) (l .slice) (a .deep) (a .z-stride .0) (a .listed + l .slice * a .z-stride .0) taken refl in
+    ((rw (l .inv .2) (h .0 .0), omega (arith, h .0 .1, h .1 .0 .apart)), (rw (l .inv .1) (h .1 .0 .each (l .slice) taken), (h .1 .1 .0, h .1 .1 .1)))
 
-add-k : tie.Need-add-k Inv-loop μ-loop
-add-k c = search needs
+add-slice : tie.Need-add-slice Inv-loop μ-loop
+add-slice c = search needs
 
 add-i : tie.Need-add-i Inv-loop μ-loop
 add-i c =
     let a = c .before .before .before .before .before .before .before .before .args in
     let l = c .before .before .before .before .before .loop in
-    record { fits = omega (arith, below-last (a .start .0) (l .k) (a .deep) (a .z-stride .0) (l .i) (c .before .before .before .before .loop-test .taken) (l .inv .1), c .before .before .before .before .before .before .before .before .pre .1 .0 .last) }
+    record { fits = omega (arith, below-last (a .start .0) (l .slice) (a .deep) (a .z-stride .0) (l .i) (c .before .before .before .before .loop-test .taken) (l .inv .1), c .before .before .before .before .before .before .before .before .pre .1 .0 .last) }
 
 loop-less : tie.Need-loop-less Inv-loop μ-loop
 loop-less c = omega arith
@@ -51,7 +51,7 @@ loop-again c =
     let a = c .before .before .before .before .before .before .before .before .args in
     let l = c .before .before .before .before .before .loop in
     let made = c .before .before .mesh-slice .ensures in
-    let more = next-at (a .listed) (l .k) (a .z-stride .0) (a .listed + l .k * a .z-stride .0) refl in
+    let more = next-at (a .listed) (l .slice) (a .z-stride .0) (a .listed + l .slice * a .z-stride .0) refl in
     (omega arith, next-at _ _ _ _ (l .inv .1), c .before .before .mesh-slice .kept .1 .0 ∙ l .inv .2, omega (arith, c .before .before .before .before .before .before .before .before .pre .1 .0 .apart), list-on _ _ _ _ _ _ _ _ _ (c .before .before .before .before .loop-test .taken) (made .is) (l .inv .4))
 
 same-length : tie.Need-same-length Inv-loop μ-loop
@@ -75,7 +75,7 @@ mesh-slices-spec =
     loop-holds
     add-mesh-slice
     mesh-slice-requires
-    add-k
+    add-slice
     add-i
     loop-less
     loop-again
