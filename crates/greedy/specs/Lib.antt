@@ -3,3 +3,5 @@ pub mod Group
 pub mod Merger
 pub mod Greedy
 pub mod Table
+-- For private contracts alone:
+pub mod Inner

@@ -9,12 +9,20 @@ use Rattle.geometry.specs.Point.{Point, moved}
 use Rattle.geometry.specs.Axes.{uAxis, vAxis}
 use Rattle.voxels.specs.Voxel.{uniform}
 use Rattle.voxels.specs.Shape.{Field}
-use Rattle.greedy.specs.Group.{passes, Choice}
+use Rattle.greedy.specs.Group.{passes, Pick, Choice}
 
 -- What a walk got, and its tests, "the failing one included".
 pub record Walked : Type 0 where
   pub got : ℕ
   pub tests : ℕ
+
+-- A walk of two numbers.
+abbrev pub walk : ℕ → ℕ → Walked
+walk got tests = record { got = got; tests = tests }
+
+-- A rectangle of three numbers.
+abbrev pub pick : ℕ → ℕ → ℕ → Pick
+pick width height tests = record { width = width; height = height; tests = tests }
 
 -- The test of a voxel in a row walk: "testing each voxel, also its merge value against the first one's". "The merge value belongs to the same test" (123 to 132).
 unfoldable pub follows : OrientedBlockFace → Field → List UnorientedQuad → Point → Point → Bool

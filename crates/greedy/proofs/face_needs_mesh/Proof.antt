@@ -1,0 +1,54 @@
+-- `face_needs_mesh` meets its contract: its tests are the rule's, by index.
+use borrow.Author.Needs.{needs}
+use Rattle.greedy.proofs.Walks.{visited-not, shows-needs}
+use Rattle.greedy.proofs.face_needs_mesh.Statement.{statement}
+use Rattle.greedy.proofs.face_needs_mesh.Tie as tie
+
+cast-i : tie.Need-cast-i
+cast-i c = search needs
+
+shared-slice-read-if1 : tie.Need-shared-slice-read-if1
+shared-slice-read-if1 c = search needs
+
+returns : tie.Need-returns
+returns c = visited-not _ _ _ _ (c .if1 .taken)
+
+offset-requires : tie.Need-offset-requires
+offset-requires c κs = search needs
+
+cast-j : tie.Need-cast-j
+cast-j c = search needs
+
+mul-shows-face : tie.Need-mul-shows-face
+mul-shows-face c = search needs
+
+shared-slice-read-shows-face : tie.Need-shared-slice-read-shows-face
+shared-slice-read-shows-face c = search needs
+
+mul-shows-face-2 : tie.Need-mul-shows-face-2
+mul-shows-face-2 c = search needs
+
+shared-slice-read-shows-face-2 : tie.Need-shared-slice-read-shows-face-2
+shared-slice-read-shows-face-2 c = search needs
+
+shows-face-requires : tie.Need-shows-face-requires
+shows-face-requires c κs = search needs
+
+returns-2 : tie.Need-returns-2
+returns-2 c = shows-needs _ _ _ _ _ (c .before .before .before .before .before .if1 .left) (c .before .before .before .before .offset .ensures) (c .shows-face .ensures)
+
+pub face-needs-mesh-spec : {M : Type 1} → statement M
+face-needs-mesh-spec =
+    tie.close
+    (tie.spec
+    cast-i
+    shared-slice-read-if1
+    returns
+    offset-requires
+    cast-j
+    mul-shows-face
+    shared-slice-read-shows-face
+    mul-shows-face-2
+    shared-slice-read-shows-face-2
+    shows-face-requires
+    returns-2)
