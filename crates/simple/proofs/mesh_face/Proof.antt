@@ -1,9 +1,13 @@
 -- `mesh_face` meets its contract: the slices, by their indices, are the face's group.
 use borrow.Author.Needs.{needs}
 use mathlib.Core.Path.{_∙_, sym, ap}
+use Prim.Native.Nat.{_%_}
 use native.Mathlib.Omega.{arith}
 use Rattle.geometry.specs.Point.{along}
+use Rattle.geometry.specs.declared.axis.Axes.{Axes}
 use Rattle.geometry.specs.declared.axis.Axis.the-variants.{X, Y, Z}
+use Rattle.voxels.specs.Shape.{stride}
+use Rattle.voxels.specs.Visible.{modulus}
 use Rattle.simple.proofs.Faces.{below, bound-small, face-ready}
 use Rattle.simple.proofs.Loops.{listed-all}
 use Rattle.simple.proofs.mesh_face.Statement.{statement}
@@ -44,7 +48,7 @@ unfolding along
 mesh-slices-requires c κs =
     let a = c .before .before .before .before .before .before .before .before .before .before .before .before .before .before .before .before .before .args in
     let h = c .before .before .before .before .before .before .before .before .before .before .before .before .before .before .before .before .before .pre in
-    let normal = rw (c .before .before .before .before .before .before .before .before .before .before .before .before .before .before .axes .ensures) at (c .before .before .before .before .before .before .before .before .before .before .before .before .before .new .ensures) in
+    let normal = c .before .before .before .before .before .before .before .before .before .before .before .before .before .new .ensures ∙ ap (λ (x : Axes). stride (a .voxels-shape) (x .n) % modulus) (c .before .before .before .before .before .before .before .before .before .before .before .before .before .before .axes .ensures) in
     let face = face-ready _ (a .voxels-shape) (a .interior) (h .1) (a .face) (a .voxels .now) _ _ _ _ _ (c .before .before .before .before .before .before .before .linearize .ensures) normal (c .before .before .before .before .before .before .before .before .before .before .before .before .visibility-offset .ensures) (c .before .before .before .before .before .before .before .before .before .before .before .new2 .ensures) (c .before .before .before .before .before .before .before .before .before .before .new3 .ensures) in
     let lo = below _ (a .voxels-shape) (a .interior) (h .1) in
     let hi = bound-small _ (a .voxels-shape) (a .interior) (h .1) in
@@ -57,7 +61,7 @@ returns : tie.Need-returns
 returns c =
     let a = c .before .before .before .before .before .before .before .before .before .before .before .before .before .before .before .before .before .before .before .before .args in
     let h = c .before .before .before .before .before .before .before .before .before .before .before .before .before .before .before .before .before .before .before .before .pre in
-    let normal = rw (c .before .before .before .before .before .before .before .before .before .before .before .before .before .before .before .before .before .axes .ensures) at (c .before .before .before .before .before .before .before .before .before .before .before .before .before .before .before .before .new .ensures) in
+    let normal = c .before .before .before .before .before .before .before .before .before .before .before .before .before .before .before .before .new .ensures ∙ ap (λ (x : Axes). stride (a .voxels-shape) (x .n) % modulus) (c .before .before .before .before .before .before .before .before .before .before .before .before .before .before .before .before .before .axes .ensures) in
     let face = face-ready _ (a .voxels-shape) (a .interior) (h .1) (a .face) (a .voxels .now) _ _ _ _ _ (c .before .before .before .before .before .before .before .before .before .before .linearize .ensures) normal (c .before .before .before .before .before .before .before .before .before .before .before .before .before .before .before .visibility-offset .ensures) (c .before .before .before .before .before .before .before .before .before .before .before .before .before .before .new2 .ensures) (c .before .before .before .before .before .before .before .before .before .before .before .before .before .new3 .ensures) in
     let made = c .before .before .mesh-slices .ensures in
     record {
