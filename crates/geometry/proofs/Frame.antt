@@ -47,17 +47,26 @@ moved-at-most X k m p h l = elim [ X ↦ l | Y ↦ h Y | Z ↦ h Z ]
 moved-at-most Y k m p h l = elim [ X ↦ h X | Y ↦ l | Z ↦ h Z ]
 moved-at-most Z k m p h l = elim [ X ↦ h X | Y ↦ h Y | Z ↦ l ]
 
--- Three axes that differ.
-pub record Frame (a : Axes) : Type 0 where
+-- Points that agree on every axis are one.
+pub one-point : (p q : Point) → ((a : Axis) → along a p ≡ along a q) → p ≡ q
+unfolding along
+one-point p q e = rw (e X, e Y, e Z)
+
+-- Three axes that differ, and are all there are.
+pub record Frame (a : Axes) : Type 1 where
   pub un : sameAxis (a .u) (a .n) ≡ false
   pub vn : sameAxis (a .v) (a .n) ≡ false
   pub vu : sameAxis (a .v) (a .u) ≡ false
+  pub nu : sameAxis (a .n) (a .u) ≡ false
+  pub nv : sameAxis (a .n) (a .v) ≡ false
+  pub uv : sameAxis (a .u) (a .v) ≡ false
+  pub every : (P : Axis → Type 0) → P (a .n) → P (a .u) → P (a .v) → (b : Axis) → P b
 
 -- Every permutation's do.
 pub frame : (p : AxisPermutation) → Frame (axesOf p)
-frame Xyz = record { un = refl; vn = refl; vu = refl }
-frame Zxy = record { un = refl; vn = refl; vu = refl }
-frame Yzx = record { un = refl; vn = refl; vu = refl }
-frame Zyx = record { un = refl; vn = refl; vu = refl }
-frame Xzy = record { un = refl; vn = refl; vu = refl }
-frame Yxz = record { un = refl; vn = refl; vu = refl }
+frame Xyz = record { un = refl; vn = refl; vu = refl; nu = refl; nv = refl; uv = refl; every = λ P n u v. elim [ X ↦ n | Y ↦ u | Z ↦ v ] }
+frame Zxy = record { un = refl; vn = refl; vu = refl; nu = refl; nv = refl; uv = refl; every = λ P n u v. elim [ X ↦ u | Y ↦ v | Z ↦ n ] }
+frame Yzx = record { un = refl; vn = refl; vu = refl; nu = refl; nv = refl; uv = refl; every = λ P n u v. elim [ X ↦ v | Y ↦ n | Z ↦ u ] }
+frame Zyx = record { un = refl; vn = refl; vu = refl; nu = refl; nv = refl; uv = refl; every = λ P n u v. elim [ X ↦ v | Y ↦ u | Z ↦ n ] }
+frame Xzy = record { un = refl; vn = refl; vu = refl; nu = refl; nv = refl; uv = refl; every = λ P n u v. elim [ X ↦ n | Y ↦ v | Z ↦ u ] }
+frame Yxz = record { un = refl; vn = refl; vu = refl; nu = refl; nv = refl; uv = refl; every = λ P n u v. elim [ X ↦ u | Y ↦ n | Z ↦ v ] }

@@ -14,6 +14,7 @@ use Rattle.geometry.specs.declared.face.NormalsAnswer
 use Rattle.geometry.specs.declared.face.IndicesAnswer
 use Rattle.geometry.specs.declared.face.TexCoordsAnswer
 use Rattle.geometry.specs.declared.face.PositionAnswer
+use Rattle.geometry.proofs.axis.Axis.coordinate.Reads as Axis-coordinate
 use Rattle.geometry.proofs.axis.Axis.get_unit_vector.Reads as Axis-get-unit-vector
 use Rattle.geometry.proofs.axis.Axis.index.Reads as Axis-index
 use Rattle.geometry.proofs.axis.AxisPermutation.axes.Reads as AxisPermutation-axes
@@ -82,6 +83,9 @@ Axis-index-unique κs a r r′ s s′ p q = p ∙ sym q
 
 pub Axis-get-unit-vector-unique : One Axis-get-unit-vector.Post
 Axis-get-unit-vector-unique κs a r r′ s s′ p q = p ∙ sym q
+
+pub Axis-coordinate-unique : One Axis-coordinate.Post
+Axis-coordinate-unique κs a r r′ s s′ p q = p ∙ sym q
 
 pub AxisPermutation-even-with-normal-axis-unique : One AxisPermutation-even-with-normal-axis.Post
 AxisPermutation-even-with-normal-axis-unique κs a r r′ s s′ p q = p ∙ sym q

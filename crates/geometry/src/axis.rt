@@ -1,7 +1,7 @@
 // Axes, permutations and signed axes, after geometry/axis.rs.
 ghost use mathlib.Core.Path.{_≡_};
 ghost use Rattle.geometry.specs.Axes.{evenWithNormalAxis, oddWithNormalAxis, permutationSign, axesOf, permutationNumber, permutationOf, signum, unsignedAxis, signedUnit, toward, signedAxisOfSign, signedAxisOfVector};
-ghost use Rattle.geometry.specs.Point.{axisNumber, unitVector};
+ghost use Rattle.geometry.specs.Point.{axisNumber, unitVector, along};
 ghost use Rattle.geometry.specs.Answers.{signedAxisMeaning, permutationMeaning};
 use crate::refusal;
 use crate::vector::IVec3;
@@ -34,6 +34,17 @@ impl Axis {
             Axis::X => UVec3 { x: 1, y: 0, z: 0 },
             Axis::Y => UVec3 { x: 0, y: 1, z: 0 },
             Axis::Z => UVec3 { x: 0, y: 0, z: 1 },
+        }
+    }
+
+    // A point's coordinate on this axis.
+    pub fn coordinate(self, p: UVec3) -> u32
+        ensures { λ r. ⌜ r ≡ along self p ⌝ }
+    {
+        match self {
+            Axis::X => p.x,
+            Axis::Y => p.y,
+            Axis::Z => p.z,
         }
     }
 }

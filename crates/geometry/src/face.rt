@@ -219,8 +219,8 @@ impl OrientedBlockFace {
         let v = axes.v;
         let minimum = quad.minimum;
         if minimum_within_limits(minimum) {
-            if side_within_limits(coordinate(minimum, u), quad.width) {
-                if side_within_limits(coordinate(minimum, v), quad.height) {
+            if side_within_limits(u.coordinate(minimum), quad.width) {
+                if side_within_limits(v.coordinate(minimum), quad.height) {
                     return CheckAnswer::Passed;
                 }
             }
@@ -523,17 +523,6 @@ fn first_refusal(first: CheckAnswer, second: CheckAnswer) -> CheckAnswer
     match first {
         CheckAnswer::Passed => second,
         CheckAnswer::Refused(number) => CheckAnswer::Refused(number),
-    }
-}
-
-// A point's coordinate on an axis.
-fn coordinate(p: UVec3, axis: Axis) -> u32
-    ensures { λ r. ⌜ r ≡ along axis p ⌝ }
-{
-    match axis {
-        Axis::X => p.x,
-        Axis::Y => p.y,
-        Axis::Z => p.z,
     }
 }
 

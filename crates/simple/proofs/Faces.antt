@@ -14,13 +14,14 @@ use Rattle.voxels.specs.declared.extent.Extent.{Extent}
 use Rattle.voxels.specs.Shape.{size, index, stride, InShape, field}
 use Rattle.voxels.specs.Extent.{interior, scan}
 use Rattle.voxels.specs.Visible.{modulus, stepped, visible, visibilityOffset, offsetIndex}
-use Rattle.voxels.specs.Inner.{mostVoxels, Held, kept}
+use Rattle.voxels.specs.Inner.{mostVoxels, Held, Entered, kept}
 use Rattle.voxels.proofs.Places.{index-at, index-below}
 use Rattle.voxels.proofs.Scan.{those-gathered, gathered-scan, every-in-step, inside-at}
-use Rattle.voxels.proofs.Held.{axis-small, max-small, stride-is, index-fits}
+use Rattle.voxels.proofs.Held.{axis-small, stride-is}
+use Rattle.voxels.proofs.Entered.{minimum-index}
 use Rattle.voxels.proofs.Steps.{box-in-shape, neighbour-in-box, offset-leads}
 use Rattle.simple.specs.Unit.{unitGroup}
-use Rattle.simple.specs.Inner.{showsAt, voxelQuad, rowQuads, sliceQuads, slicesQuads, RowReady, SliceReady, SlicesReady, Entered}
+use Rattle.simple.specs.Inner.{showsAt, voxelQuad, rowQuads, sliceQuads, slicesQuads, RowReady, SliceReady, SlicesReady}
 
 module _ (shape : Point) (lent : ℕ) (min max : Point) (h : Held shape lent min max) (up : Bool) (n : Axis) where
   abbrev inner : Extent
@@ -45,14 +46,6 @@ module _ (shape : Point) (lent : ℕ) (min max : Point) (h : Held shape lent min
   at-in-shape : (i j k : ℕ) → i ≤ wide → j ≤ high → k ≤ deep → InShape shape (at (inner .minimum .x + i) (inner .minimum .y + j) (inner .minimum .z + k))
   unfolding along
   at-in-shape i j k hi hj hk = elim [
-    | X ↦ omega (arith, h .spans X, h .within X)
-    | Y ↦ omega (arith, h .spans Y, h .within Y)
-    | Z ↦ omega (arith, h .spans Z, h .within Z)
-  ]
-
-  pub minimum-in-shape : InShape shape (inner .minimum)
-  unfolding along
-  minimum-in-shape = elim [
     | X ↦ omega (arith, h .spans X, h .within X)
     | Y ↦ omega (arith, h .spans Y, h .within Y)
     | Z ↦ omega (arith, h .spans Z, h .within Z)
@@ -137,15 +130,6 @@ pub record FaceReady (lent : ℕ) (shape : Point) (inner : Extent) (f : Oriented
   pub few : (inner .bound .z - inner .minimum .z) * e ≤ mostVoxels
 
 module _ (lent : ℕ) (shape : Point) (inner : Extent) (entered : Entered lent shape inner) where
-  -- An interior's minimum is not past its bound,
-  pub below : (a : Axis) → along a (inner .minimum) ≤ along a (inner .bound)
-  unfolding along
-  below = let h = entered .held in rw (entered .is) (elim [ X ↦ omega (arith, h .spans X) | Y ↦ omega (arith, h .spans Y) | Z ↦ omega (arith, h .spans Z) ])
-
-  -- which lies in the shape.
-  pub bound-small : (a : Axis) → along a (inner .bound) ≤ mostVoxels
-  bound-small a = let h = entered .held in rw (entered .is) (omega (arith, max-small shape lent (entered .min) (entered .max) h a))
-
   pub face-ready : (f : OrientedBlockFace) (vs : List ℕ) (off ns i d e : ℕ)
       → i ≡ index shape (inner .minimum) % modulus → ns ≡ stride shape (nAxis f) % modulus → off ≡ visibilityOffset (positive (f .«n_sign»)) ns
       → d ≡ stride shape Y % modulus → e ≡ stride shape Z % modulus → FaceReady lent shape inner f vs off i d e
@@ -155,7 +139,7 @@ module _ (lent : ℕ) (shape : Point) (inner : Extent) (entered : Entered lent s
       let hi = entered .max in
       let n : ns ≡ stride shape (nAxis f) = stride-is shape lent lo hi h (nAxis f) is-n in
       let o : off ≡ visibilityOffset (positive (f .«n_sign»)) (stride shape (nAxis f)) = is-off ∙ ap (visibilityOffset (positive (f .«n_sign»))) n in
-      let first : i ≡ index shape (interior lo hi .minimum) = (rw (entered .is) at is-i) ∙ index-fits shape lent lo hi h _ (minimum-in-shape shape lent lo hi h (positive (f .«n_sign»)) (nAxis f)) in
+      let first : i ≡ index shape (interior lo hi .minimum) = rw (entered .is) at (minimum-index lent shape inner entered is-i) in
       rw (entered .is, o, first, stride-is shape lent lo hi h Y is-d, stride-is shape lent lo hi h Z is-e)
       (record {
         ready = slices-ready shape lent lo hi h (positive (f .«n_sign»)) (nAxis f);

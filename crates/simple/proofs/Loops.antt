@@ -10,17 +10,18 @@ use lib.ListN.{length, getD}
 use Rattle.geometry.specs.declared.axis.AxisPermutation.the-variants.{Xyz}
 use Rattle.geometry.specs.declared.face.OrientedBlockFace.{OrientedBlockFace}
 use Rattle.geometry.specs.Point.{Point, at}
-use Rattle.voxels.specs.Inner.{inStep, Output, output, pushed, pushedAll}
+use Rattle.voxels.specs.Inner.{inStep, Output, output, pushed, pushedAll, MadeGroups}
 use Rattle.geometry.specs.Axes.{bit}
 use Rattle.geometry.specs.Refusal.{accepted, refused}
-use Rattle.voxels.specs.Listing.{joined, capacity, lay}
+use Rattle.voxels.specs.Listing.{capacity, lay}
 use Rattle.voxels.specs.Voxel.{shows}
 use Rattle.voxels.specs.Visible.{offsetIndex}
 use Rattle.voxels.proofs.Asked.{more, done}
-use Rattle.voxels.proofs.Pushed.{pushed-append, pushed-counts, all-laid, lay-many, lay-fits}
+use Rattle.voxels.proofs.Pushed.{pushed-append, pushed-counts}
+use Rattle.voxels.proofs.Groups.{laid-many, laid-counts, laid-out}
 use Rattle.simple.specs.Unit.{unitNumbers, numbersOf, unitAnswer, outcome}
 use Rattle.simple.specs.declared.UnitAnswer.{UnitAnswer}
-use Rattle.simple.specs.Inner.{showsAt, voxelQuad, MadeGroups, laidOutcome}
+use Rattle.simple.specs.Inner.{showsAt, voxelQuad, laidOutcome}
 
 -- A unit quad has three numbers.
 pub three : (p : Point) → length (numbersOf p) ≡ unitNumbers
@@ -82,25 +83,16 @@ noFace = record { «n_sign» = pos 0; permutation = Xyz }
 
 -- ---- the answer
 
-module _ (groups : List (List Point)) (was out : List ℕ) (listed : ℕ) (counts : List ℕ) (made : MadeGroups groups was out listed counts) where
-  laid-is : output out listed ≡ output (lay unitNumbers numbersOf groups was .out) (length (joined groups))
-  laid-is = made .is ∙ all-laid unitNumbers numbersOf (omega arith) three groups was
-
+module _ (groups : List (List Point)) (was out : List ℕ) (listed : ℕ) (counts : List ℕ) (made : MadeGroups unitNumbers numbersOf groups was out listed counts) (room : ℕ) (is : room ≡ capacity unitNumbers (length was)) where
   -- More than fit are refused, with the first written,
-  pub many-laid : (r : UnitAnswer) (room : ℕ) → room ≡ capacity unitNumbers (length was) → room < listed → r ≡ unitAnswer (refused 9 room)
-      → outcome r out ≡ laidOutcome (lay unitNumbers numbersOf groups was)
-  many-laid r room is h e =
-      let some : capacity unitNumbers (length was) < length (joined groups) = omega (arith, ap (λ (o : Output). o .listed) laid-is) in
-      let a : r ≡ unitAnswer (lay unitNumbers numbersOf groups was .answer) = e ∙ ap unitAnswer (ap (refused 9) is ∙ sym (lay-many unitNumbers numbersOf groups was some)) in
-      let o : out ≡ lay unitNumbers numbersOf groups was .out = ap (λ (s : Output). s .out) laid-is in
-      rw (a, o)
+  pub many-laid : (r : UnitAnswer) → room < listed → r ≡ unitAnswer (refused 9 room) → outcome r out ≡ laidOutcome (lay unitNumbers numbersOf groups was)
+  many-laid r h e =
+      let a : r ≡ unitAnswer (lay unitNumbers numbersOf groups was .answer) = e ∙ ap unitAnswer (laid-many unitNumbers numbersOf (omega arith) three groups was out listed counts made room is h) in
+      rw (a, laid-out unitNumbers numbersOf (omega arith) three groups was out listed counts made room is)
 
   -- and what fits is counted.
-  pub all-fit : (room : ℕ) → room ≡ capacity unitNumbers (length was) → listed ≤ room
-      → outcome (record { refusal = 0; place = 0; counts = counts }) out ≡ laidOutcome (lay unitNumbers numbersOf groups was)
-  all-fit room is h =
-      let fits : length (joined groups) ≤ capacity unitNumbers (length was) = omega (arith, ap (λ (o : Output). o .listed) laid-is) in
+  pub all-fit : listed ≤ room → outcome (record { refusal = 0; place = 0; counts = counts }) out ≡ laidOutcome (lay unitNumbers numbersOf groups was)
+  all-fit h =
       let a : record { refusal = 0; place = 0; counts = counts } ≡ unitAnswer (lay unitNumbers numbersOf groups was .answer) =
-      ap (λ (c : List ℕ). unitAnswer (accepted c)) (made .each) ∙ ap unitAnswer (sym (lay-fits unitNumbers numbersOf groups was fits)) in
-      let o : out ≡ lay unitNumbers numbersOf groups was .out = ap (λ (s : Output). s .out) laid-is in
-      rw (a, o)
+      ap unitAnswer (laid-counts unitNumbers numbersOf (omega arith) three groups was out listed counts made room is h) in
+      rw (a, laid-out unitNumbers numbersOf (omega arith) three groups was out listed counts made room is)

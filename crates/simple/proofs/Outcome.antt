@@ -13,11 +13,12 @@ use Rattle.voxels.specs.Extent.{interior}
 use Rattle.voxels.specs.Checks.{boundsChecks, badFaces, badVoxels, unitChecks}
 use Rattle.voxels.specs.Listing.{lay}
 use Rattle.voxels.specs.Answers.{entry}
+use Rattle.voxels.specs.Inner.{Entered}
 use Rattle.voxels.proofs.Orders.{both-pass, answer-refused}
 use Rattle.voxels.proofs.Held.{bounds-held}
 use Rattle.simple.specs.declared.UnitAnswer.{UnitAnswer}
 use Rattle.simple.specs.Unit.{unitNumbers, numbersOf, unitGroups, unitAnswer, UnitOutcome, outcome, visibleBlockFaces}
-use Rattle.simple.specs.Inner.{Entered, laidOutcome}
+use Rattle.simple.specs.Inner.{laidOutcome}
 
 module _ (voxels : List ℕ) (shape min max : Point) (faces : List OrientedBlockFace) where
   abbrev checks : List Check

@@ -79,18 +79,6 @@ pub record Made (rule : Output) (most : ℕ) (out : List ℕ) (listed : ℕ) : T
   pub is : output out listed ≡ rule
   pub bound : listed ≤ most
 
--- The buffer and the number listed are those of some groups listed from the start, and the counts are the groups'.
-pub record MadeGroups (groups : List (List Point)) (was out : List ℕ) (listed : ℕ) (counts : List ℕ) : Type 0 where
-  pub is : output out listed ≡ pushedAll unitNumbers numbersOf (output was 0) (joined groups)
-  pub each : counts ≡ map length groups
-
 -- The outcome of what laying leaves.
 abbrev pub laidOutcome : Laid → UnitOutcome
 laidOutcome laid = outcome (unitAnswer (laid .answer)) (laid .out)
-
--- An extent is the interior of a box that passed the entry checks.
-pub record Entered (lent : ℕ) (shape : Point) (inner : Extent) : Type 0 where
-  pub min : Point
-  pub max : Point
-  pub is : inner ≡ interior min max
-  pub held : Held shape lent min max

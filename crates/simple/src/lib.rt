@@ -14,9 +14,9 @@ ghost use Rattle.geometry.specs.Refusal as refusal;
 ghost use Rattle.voxels.specs.Shape.{field};
 ghost use Rattle.voxels.specs.Visible.{offsetIndex};
 ghost use Rattle.voxels.specs.Listing as listing;
-ghost use Rattle.voxels.specs.Inner.{mostVoxels, output, pushed, pushedAll};
+ghost use Rattle.voxels.specs.Inner.{mostVoxels, Entered, output, pushed, pushedAll, MadeGroups};
 ghost use Rattle.simple.specs.Unit.{unitNumbers, numbersOf, unitGroup, unitGroups, unitAnswer, outcome, visibleBlockFaces};
-ghost use Rattle.simple.specs.Inner.{shownBeside, voxelQuad, rowQuads, sliceQuads, slicesQuads, mostListed, Beside, RowReady, SliceReady, SlicesReady, Made, Entered, MadeGroups, laidOutcome};
+ghost use Rattle.simple.specs.Inner.{shownBeside, voxelQuad, rowQuads, sliceQuads, slicesQuads, mostListed, Beside, RowReady, SliceReady, SlicesReady, Made, laidOutcome};
 use geometry::axis::Axis;
 use geometry::face::OrientedBlockFace;
 use geometry::vector::UVec3;
@@ -316,7 +316,7 @@ fn mesh_faces(
 ) -> Meshed
     requires { ⌜ capacity ≡ listing.capacity unitNumbers (length (now out)) ⌝ }
     requires { ⌜ Entered (length (now voxels)) «voxels_shape» interior ⌝ }
-    ensures { λ r. ⌜ MadeGroups (unitGroups interior (field «voxels_shape» (now (voxels .entry))) faces) (now (out .entry)) (now (out .exit)) (r .listed) (r .counts) ⌝ }
+    ensures { λ r. ⌜ MadeGroups unitNumbers numbersOf (unitGroups interior (field «voxels_shape» (now (voxels .entry))) faces) (now (out .entry)) (now (out .exit)) (r .listed) (r .counts) ⌝ }
 {
     let mut counts = [0u64; 6];
     let mut n: usize = 0;

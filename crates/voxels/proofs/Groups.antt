@@ -5,10 +5,11 @@ use Prim.Native.Nat.{ℕ, zero, suc, _+_, _-_, _≤_, _<_}
 use native.Mathlib.Nat.{add-zero, suc-add, not-suc-le-zero}
 use native.Mathlib.Omega.{arith}
 use lib.ListN.{length, getD, take, set, replicate}
-use Rattle.voxels.specs.Listing.{joined}
-use Rattle.voxels.specs.Inner.{Output, output, pushed, pushedAll}
+use Rattle.geometry.specs.Refusal.{accepted, refused}
+use Rattle.voxels.specs.Listing.{joined, capacity, lay}
+use Rattle.voxels.specs.Inner.{Output, output, pushed, pushedAll, MadeGroups}
 use Rattle.voxels.proofs.Asked.{more, done}
-use Rattle.voxels.proofs.Pushed.{set-after, pushed-append, pushed-counts}
+use Rattle.voxels.proofs.Pushed.{set-after, pushed-append, pushed-counts, all-laid, lay-many, lay-fits}
 
 -- One more of a list.
 take-next : {A : Type 0} (l : List A) (k : ℕ) (d : A) → k < length l → take (k + 1) l ≡ take k l ++ (getD l k d ∷ [])
@@ -80,3 +81,22 @@ module _ {F A : Type 0} (group : F → List A) (fs : List F) where
 
   pub counts-done : (k n : ℕ) (counts : List ℕ) → length fs ≡ n → n ≤ k → counts ≡ map length (map group (take k fs)) ++ replicate (n - k) 0 → counts ≡ map length (map group fs)
   counts-done k n counts all h e = rw (take-whole fs k (omega arith), done k n h, append-nil) at e
+
+-- What was listed is what `lay` says: more than fit are refused, with the first written, and what fits is counted.
+module _ {A : Type 0} (numbers : ℕ) (numbersOf : A → List ℕ) (some : 0 < numbers) (sized : (a : A) → length (numbersOf a) ≡ numbers)
+    (groups : List (List A)) (was out : List ℕ) (listed : ℕ) (counts : List ℕ) (made : MadeGroups numbers numbersOf groups was out listed counts) (room : ℕ) (is : room ≡ capacity numbers (length was)) where
+  laid-is : output out listed ≡ output (lay numbers numbersOf groups was .out) (length (joined groups))
+  laid-is = made .is ∙ all-laid numbers numbersOf some sized groups was
+
+  pub laid-out : out ≡ lay numbers numbersOf groups was .out
+  laid-out = ap (λ (s : Output). s .out) laid-is
+
+  pub laid-many : room < listed → refused 9 room ≡ lay numbers numbersOf groups was .answer
+  laid-many h =
+      let many : capacity numbers (length was) < length (joined groups) = omega (arith, ap (λ (o : Output). o .listed) laid-is) in
+      ap (refused 9) is ∙ sym (lay-many numbers numbersOf groups was many)
+
+  pub laid-counts : listed ≤ room → accepted counts ≡ lay numbers numbersOf groups was .answer
+  laid-counts h =
+      let fits : length (joined groups) ≤ capacity numbers (length was) = omega (arith, ap (λ (o : Output). o .listed) laid-is) in
+      ap accepted (made .each) ∙ sym (lay-fits numbers numbersOf groups was fits)

@@ -13,6 +13,8 @@ pub mod Asked
 pub mod Scan
 -- What checks 1 to 5 leave.
 pub mod Held
+-- Of an accepted entry.
+pub mod Entered
 -- Of steps to a neighbour.
 pub mod Steps
 -- What refusal 8 tells its reader.

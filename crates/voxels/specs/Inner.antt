@@ -1,16 +1,18 @@
 -- What private functions require and promise, here and in the meshers. No public contract uses these.
 use mathlib.Core.Bool.{Bool, true, false}
-use mathlib.Core.List.{List, [], _∷_, _++_}
+use mathlib.Core.List.{List, [], _∷_, _++_, map}
+use mathlib.Core.Path.{_≡_}
 use Prim.Native.Nat.{ℕ, zero, suc, _+_, _*_, _≤_, _<_}
 use lib.Dec.{ltb}
 use lib.ListN.{length, set}
 use Rattle.geometry.specs.declared.axis.Axis.{Axis}
 use Rattle.geometry.specs.Point.{Point, along}
 use Rattle.geometry.specs.Refusal.{Check}
+use Rattle.voxels.specs.declared.extent.Extent.{Extent}
 use Rattle.voxels.specs.Shape.{size}
-use Rattle.voxels.specs.Extent.{every}
+use Rattle.voxels.specs.Extent.{interior, every}
 use Rattle.voxels.specs.Checks.{badVoxelAt}
-use Rattle.voxels.specs.Listing.{capacity}
+use Rattle.voxels.specs.Listing.{joined, capacity}
 
 -- The most voxels that a shape has.
 abbrev pub mostVoxels : ℕ
@@ -27,6 +29,13 @@ pub record Held (shape : Point) (lent : ℕ) (min max : Point) : Type 0 where
   pub enough : size shape ≤ lent
   pub spans : (a : Axis) → along a min < along a max
   pub within : (a : Axis) → along a max < along a shape
+
+-- An extent is the interior of a box that passed the entry checks.
+pub record Entered (lent : ℕ) (shape : Point) (inner : Extent) : Type 0 where
+  pub min : Point
+  pub max : Point
+  pub is : inner ≡ interior min max
+  pub held : Held shape lent min max
 
 -- What `f` gives at each of a list, end to end.
 unfoldable pub gathered : {A B : Type 0} → (A → List B) → List A → List B
@@ -99,3 +108,8 @@ pushed numbers numbersOf s a =
 unfoldable pub pushedAll : {A : Type 0} → ℕ → (A → List ℕ) → Output → List A → Output
 pushedAll numbers numbersOf s [] = s
 pushedAll numbers numbersOf s (a ∷ l) = pushedAll numbers numbersOf (pushed numbers numbersOf s a) l
+
+-- The buffer and the number listed are those of some groups listed from the start, and the counts are the groups'.
+pub record MadeGroups {A : Type 0} (numbers : ℕ) (numbersOf : A → List ℕ) (groups : List (List A)) (was out : List ℕ) (listed : ℕ) (counts : List ℕ) : Type 0 where
+  pub is : output out listed ≡ pushedAll numbers numbersOf (output was 0) (joined groups)
+  pub each : counts ≡ map length groups

@@ -18,7 +18,7 @@ same-length c = search needs
 
 returns : tie.Need-returns
 unfolding capacity
-returns c = many-laid _ _ _ _ _ (c .before .before .before .before .mesh-faces .ensures) _ _ refl (c .before .if1 .taken) (c .refused .ensures)
+returns c = many-laid _ _ _ _ _ (c .before .before .before .before .mesh-faces .ensures) _ refl _ (c .before .if1 .taken) (c .refused .ensures)
 
 same-length-2 : tie.Need-same-length-2
 same-length-2 c = search needs

@@ -8,7 +8,8 @@ use Rattle.geometry.specs.declared.axis.Axes.{Axes}
 use Rattle.geometry.specs.declared.axis.Axis.the-variants.{X, Y, Z}
 use Rattle.voxels.specs.Shape.{stride}
 use Rattle.voxels.specs.Visible.{modulus}
-use Rattle.simple.proofs.Faces.{below, bound-small, face-ready}
+use Rattle.simple.proofs.Faces.{face-ready}
+use Rattle.voxels.proofs.Entered.{below, bound-small}
 use Rattle.simple.proofs.Loops.{listed-all}
 use Rattle.simple.proofs.mesh_face.Statement.{statement}
 use Rattle.simple.proofs.mesh_face.Tie as tie

@@ -1,8 +1,8 @@
--- `coordinate` meets its contract: each arm is given which axis it is.
+-- `Axis::coordinate` meets its contract: each arm is given which axis it is.
 use borrow.Author.Needs.{needs}
 use Rattle.geometry.specs.Point.{along}
-use Rattle.geometry.proofs.face.coordinate.Statement.{statement}
-use Rattle.geometry.proofs.face.coordinate.Tie as tie
+use Rattle.geometry.proofs.axis.Axis.coordinate.Statement.{statement}
+use Rattle.geometry.proofs.axis.Axis.coordinate.Tie as tie
 
 enum-told : tie.Need-enum-told
 enum-told c = search needs

@@ -1,0 +1,32 @@
+-- An accepted entry's interior: its minimum is not past its bound, both lie in the shape, and the code's numbers, taken modulo 2 to the 32nd, are its index and the strides.
+use mathlib.Core.Path.{_≡_, _∙_}
+use Prim.Native.Nat.{ℕ, _%_, _≤_, _<_}
+use native.Mathlib.Omega.{arith}
+use Rattle.geometry.specs.declared.axis.Axis.{Axis}
+use Rattle.geometry.specs.declared.axis.Axis.the-variants.{X, Y, Z}
+use Rattle.geometry.specs.Point.{Point, along}
+use Rattle.voxels.specs.declared.extent.Extent.{Extent}
+use Rattle.voxels.specs.Shape.{index, stride, InShape}
+use Rattle.voxels.specs.Visible.{modulus}
+use Rattle.voxels.specs.Inner.{mostVoxels, Entered}
+use Rattle.voxels.proofs.Held.{max-small, stride-is, index-fits}
+
+module _ (lent : ℕ) (shape : Point) (inner : Extent) (entered : Entered lent shape inner) where
+  pub below : (a : Axis) → along a (inner .minimum) ≤ along a (inner .bound)
+  unfolding along
+  below = let h = entered .held in rw (entered .is) (elim [ X ↦ omega (arith, h .spans X) | Y ↦ omega (arith, h .spans Y) | Z ↦ omega (arith, h .spans Z) ])
+
+  pub bound-within : (a : Axis) → along a (inner .bound) < along a shape
+  bound-within a = let h = entered .held in rw (entered .is) (h .within a)
+
+  pub bound-small : (a : Axis) → along a (inner .bound) ≤ mostVoxels
+  bound-small a = let h = entered .held in rw (entered .is) (omega (arith, max-small shape lent (entered .min) (entered .max) h a))
+
+  pub minimum-in-shape : InShape shape (inner .minimum)
+  minimum-in-shape a = omega (arith, below a, bound-within a)
+
+  pub minimum-index : {i : ℕ} → i ≡ index shape (inner .minimum) % modulus → i ≡ index shape (inner .minimum)
+  minimum-index e = e ∙ index-fits shape lent (entered .min) (entered .max) (entered .held) (inner .minimum) minimum-in-shape
+
+  pub entered-stride : (a : Axis) {d : ℕ} → d ≡ stride shape a % modulus → d ≡ stride shape a
+  entered-stride a e = stride-is shape lent (entered .min) (entered .max) (entered .held) a e
