@@ -6,6 +6,7 @@ mod corners;
 mod draw;
 mod entry;
 mod faces;
+mod quads;
 mod show;
 mod textures;
 mod unit;
@@ -20,4 +21,5 @@ fn main() {
     draw::run();
     entry::run();
     unit::run();
+    quads::run();
 }

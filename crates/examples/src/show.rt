@@ -19,6 +19,20 @@ pub fn number(n: u32) {
     io::print_decimal(STDOUT_FILENO, n as u64);
 }
 
+// A number of 64 bits, after a space.
+pub fn count(n: u64) {
+    text(b" ");
+    io::print_decimal(STDOUT_FILENO, n);
+}
+
+// The number before another, or 0: the last coordinate of an axis.
+pub fn last(n: u32) -> u32 {
+    if n == 0 {
+        return 0;
+    }
+    n - 1
+}
+
 // The answer of a check.
 pub fn checked(answer: CheckAnswer) {
     match answer {

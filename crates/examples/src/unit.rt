@@ -38,10 +38,10 @@ fn readme() {
     block[13] = 32775;
     let mut out = [9u32; 18];
     show::text(b"README's looks_up of E1:");
-    count(looks_up(&block, &mut out));
+    show::count(looks_up(&block, &mut out));
     show::text(b", and with an empty output:");
     let mut none = [9u32; 0];
-    count(looks_up(&block, &mut none));
+    show::count(looks_up(&block, &mut none));
     show::end();
 }
 
@@ -107,9 +107,9 @@ fn meshed(name: &[u8], block: &[u16], x: u32, y: u32, z: u32, out: &mut [u32]) {
     let shape = UVec3 { x, y, z };
     let min = UVec3 { x: 0, y: 0, z: 0 };
     let max = UVec3 {
-        x: last(x),
-        y: last(y),
-        z: last(z),
+        x: show::last(x),
+        y: show::last(y),
+        z: show::last(z),
     };
     let answer = simple::visible_block_faces(block, shape, min, max, six(), &mut *out);
     if answer.refusal != 0 {
@@ -120,28 +120,15 @@ fn meshed(name: &[u8], block: &[u16], x: u32, y: u32, z: u32, out: &mut [u32]) {
     }
     show::text(b" counts");
     let counts = answer.counts;
-    count(counts[0]);
-    count(counts[1]);
-    count(counts[2]);
-    count(counts[3]);
-    count(counts[4]);
-    count(counts[5]);
+    show::count(counts[0]);
+    show::count(counts[1]);
+    show::count(counts[2]);
+    show::count(counts[3]);
+    show::count(counts[4]);
+    show::count(counts[5]);
     show::text(b", out");
     numbers(out);
     show::end();
-}
-
-fn count(n: u64) {
-    show::text(b" ");
-    io::print_decimal(STDOUT_FILENO, n);
-}
-
-// The number before another, or 0.
-fn last(n: u32) -> u32 {
-    if n == 0 {
-        return 0;
-    }
-    n - 1
 }
 
 fn numbers(out: &[u32]) {

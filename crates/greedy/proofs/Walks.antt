@@ -18,11 +18,11 @@ use Rattle.greedy.specs.Inner.{walked, after, walkedRows, afterRows, ste
 
 -- A walk's first step, from its test.
 module _ {A : Type 0} (ok : A → Bool) (next : A → A) (a : A) (n : ℕ) where
-  walk-passes : ok a ≡ true → walked ok next a (suc n) ≡ after 1 (walked ok next (next a) n)
+  pub walk-passes : ok a ≡ true → walked ok next a (suc n) ≡ after 1 (walked ok next (next a) n)
   unfolding walked
   walk-passes e = rw (e, walked)
 
-  walk-fails : ok a ≡ false → walked ok next a (suc n) ≡ walk 0 1
+  pub walk-fails : ok a ≡ false → walked ok next a (suc n) ≡ walk 0 1
   unfolding walked
   walk-fails e = rw (e, walked)
 
@@ -46,11 +46,11 @@ module _ {A : Type 0} (ok : A → Bool) (next : A → A) where
 
 -- A row's first step among rows.
 module _ {A : Type 0} (row : A → Walked) (width : ℕ) (next : A → A) (a : A) (n : ℕ) where
-  rows-whole : row a .got ≡ width → walkedRows row width next a (suc n) ≡ afterRows 1 (row a .tests) (walkedRows row width next (next a) n)
+  pub rows-whole : row a .got ≡ width → walkedRows row width next a (suc n) ≡ afterRows 1 (row a .tests) (walkedRows row width next (next a) n)
   unfolding walkedRows
   rows-whole e = rw (eq-eqb (row a .got) width e, walkedRows)
 
-  rows-broken : (row a .got ≡ width → ⊥) → walkedRows row width next a (suc n) ≡ walk 0 (row a .tests)
+  pub rows-broken : (row a .got ≡ width → ⊥) → walkedRows row width next a (suc n) ≡ walk 0 (row a .tests)
   unfolding walkedRows
   rows-broken d = rw (ne-eqb (row a .got) width d, walkedRows)
 

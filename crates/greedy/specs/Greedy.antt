@@ -37,9 +37,13 @@ numbersOf l =
     let q : UnorientedQuad = l .quad in
     q .minimum .x ∷ q .minimum .y ∷ q .minimum .z ∷ q .width ∷ q .height ∷ []
 
+-- The group of a face, listed.
+abbrev pub listedGroup : Extent → Field → OrientedBlockFace → List Listed
+listedGroup inner v f = map listed (greedyGroup inner v f .quads)
+
 -- "Six groups again, each with its own cleared visited marks; the same face given twice gives two equal groups" (108 to 110).
 unfoldable pub greedyGroups : Extent → Field → List OrientedBlockFace → List (List Listed)
-greedyGroups inner v faces = map (λ (f : OrientedBlockFace). map listed (greedyGroup inner v f .quads)) faces
+greedyGroups inner v faces = map (listedGroup inner v) faces
 
 -- "the tests summed over the six faces"
 unfoldable pub greedyTests : Extent → Field → List OrientedBlockFace → ℕ
@@ -57,6 +61,10 @@ pub record GreedyOutcome : Type 0 where
   pub visitedBytes : List ℕ
   pub out : List ℕ
 
+-- The outcome of an answer, of visited bytes and of an output.
+abbrev pub outcome : GreedyAnswer → List ℕ → List ℕ → GreedyOutcome
+outcome answer bytes out = record { answer = answer; visitedBytes = bytes; out = out }
+
 -- The whole outcome of greedy meshing. It refuses by 1 to 8, then by 9; otherwise the answer has the number of quads of each group, and the tests. Where the entry checks pass
 -- the output holds the listing, as far as it fits, and "the first X·Y·Z visited bytes are 0, the rest unchanged, whatever they held before". (The Rust's own vector is as long
 -- as the voxels lent, 98.)
@@ -66,8 +74,7 @@ greedyQuads voxels shape min max faces bytes out =
     let v : Field = field shape voxels in
     let entry : Answer (Unit {0}) = checked (greedyChecks voxels shape min max faces (length bytes)) in
     let laid : Laid = lay quadNumbers numbersOf (greedyGroups inner v faces) out in
-    record {
-      answer = greedyAnswer (greedyTests inner v faces) (follow entry (laid .answer));
-      visitedBytes = atExit entry (overwritten (replicate (size shape) 0) bytes) bytes;
-      out = atExit entry (laid .out) out;
-    }
+    outcome
+    (greedyAnswer (greedyTests inner v faces) (follow entry (laid .answer)))
+    (atExit entry (overwritten (replicate (size shape) 0) bytes) bytes)
+    (atExit entry (laid .out) out)

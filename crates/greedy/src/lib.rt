@@ -1,13 +1,32 @@
 // Greedy meshing: quads as large as the walk of the Rust's `VoxelMerger` makes them, after greedy.rs
 // and greedy/merge_strategy.rs.
+//
+// A face is meshed at a time, slice by slice along n, and a slice in scan order. The marks are a byte
+// a voxel. Strides and offsets are computed once a face, and a voxel's index is the one before it
+// and a stride.
 ghost use mathlib.Core.Path.{_≡_};
-ghost use lib.ListN.{length};
-ghost use Rattle.greedy.specs.Inner.{Touches, needsAt};
+ghost use Prim.Native.Nat.{_+_, _*_, _<_, _≤_};
+ghost use lib.ListN.{length, replicate};
+ghost use Rattle.geometry.specs.Refusal as refusal;
+ghost use Rattle.voxels.specs.Shape as shape;
+ghost use Rattle.voxels.specs.Listing as listing;
+ghost use Rattle.voxels.specs.Inner.{mostVoxels, output, pushed};
+ghost use Rattle.greedy.specs.Greedy.{quadNumbers, numbersOf, listed, greedyGroup, greedyGroups, greedyTests, greedyAnswer, outcome, greedyQuads};
+ghost use Rattle.greedy.specs.Inner.{Touches, needsAt, SpotReady, RowScan, SliceScan, SlicesScan, voxelTests, mostTests, Made, MadeFace, MadeFaces, Accepted, progress, laidAt, scannedAt, rowAlong, sliceAlong, slicesAlong, spot, laidOutcome};
 
+mod face_scan;
 mod merge_strategy;
+mod visited;
 
+use crate::face_scan::FaceScan;
+use geometry::face::OrientedBlockFace;
+use geometry::vector::UVec3;
+use voxels::bounds;
+use voxels::bounds::EntryAnswer;
+use voxels::extent::Extent;
 use voxels::index::Stride;
 use voxels::index::VoxelIndex;
+use voxels::refusal;
 use voxels::voxel;
 
 // What greedy meshing answers.
@@ -20,6 +39,12 @@ pub struct GreedyAnswer {
     pub counts: [u64; 6],
     // The voxel tests, summed over the six faces; 0 where the call was refused.
     pub tests: u64,
+}
+
+// How far a call is: the quads that it has listed, written or not, and the tests that it has made.
+struct Progress {
+    listed: usize,
+    tests: u64,
 }
 
 // Whether a voxel's face needs to be meshed: it is not visited yet, it is not empty, and it shows its
@@ -40,4 +65,381 @@ fn face_needs_mesh(
     let adjacent = index.offset(visibility_offset);
     let j = adjacent.0 as usize;
     voxel::shows_face(voxels[i], voxels[j])
+}
+
+// Lists a quad: writes it where there is room.
+fn push(
+    out: &mut [u32],
+    capacity: usize,
+    quads: usize,
+    minimum: UVec3,
+    width: u32,
+    height: u32,
+) -> usize
+    requires { ⌜ (capacity ≡ listing.capacity quadNumbers (length (now out))) × (quads ≤ mostTests) ⌝ }
+    ensures { λ r. ⌜ output (now (out .exit)) r ≡ pushed quadNumbers numbersOf (output (now (out .entry)) quads) (listed (record { minimum = minimum; width = width; height = height })) ⌝ }
+{
+    if quads < capacity {
+        let x = quads * 5;
+        let y = x + 1;
+        let z = y + 1;
+        let w = z + 1;
+        let h = w + 1;
+        out[x] = minimum.x;
+        out[y] = minimum.y;
+        out[z] = minimum.z;
+        out[w] = width;
+        out[h] = height;
+        return quads + 1;
+    }
+    quads + 1
+}
+
+// Picks the quad of a voxel that needs a mesh, marks it and lists it.
+fn lay_quad(
+    voxels: &[u16],
+    visited: &mut [u8],
+    out: &mut [u32],
+    capacity: usize,
+    before: Progress,
+    scan: FaceScan,
+    minimum: UVec3,
+    min_index: VoxelIndex,
+) -> Progress
+    requires { ⌜ (capacity ≡ listing.capacity quadNumbers (length (now out))) × (before .listed ≤ before .tests) × (before .tests + voxelTests ≤ mostTests) ⌝ }
+    requires { ⌜ SpotReady (length (now voxels)) (length (now visited)) scan minimum («min_index» .0) ⌝ }
+    ensures { λ r. ⌜ Made (laidAt (now (voxels .entry)) scan (progress (now (visited .entry)) (now (out .entry)) (before .listed) (before .tests)) minimum («min_index» .0)) (before .tests + voxelTests) (now (visited .exit)) (now (out .exit)) (r .listed) (r .tests) ⌝ }
+{
+    let axes = scan.axes;
+    let u = axes.u;
+    let v = axes.v;
+    let bound = scan.bound;
+    let u_stride = scan.u_stride;
+    let v_stride = scan.v_stride;
+    let max_width = u.coordinate(bound) - u.coordinate(minimum);
+    let max_height = v.coordinate(bound) - v.coordinate(minimum);
+    let quad = merge_strategy::find_quad(
+        voxels,
+        visited,
+        min_index,
+        max_width,
+        max_height,
+        u_stride,
+        v_stride,
+        scan.visibility_offset,
+    );
+    let width = quad.width;
+    let height = quad.height;
+    visited::mark_quad(visited, min_index, u_stride, width, v_stride, height);
+    let listed = push(out, capacity, before.listed, minimum, width, height);
+    let tests = before.tests + 1 + quad.tests;
+    Progress { listed, tests }
+}
+
+// Scans a voxel: tests it, and lays its quad where it needs a mesh.
+fn scan_voxel(
+    voxels: &[u16],
+    visited: &mut [u8],
+    out: &mut [u32],
+    capacity: usize,
+    before: Progress,
+    scan: FaceScan,
+    slice: u32,
+    row: u32,
+    place: u32,
+    index: VoxelIndex,
+) -> Progress
+    requires { ⌜ (capacity ≡ listing.capacity quadNumbers (length (now out))) × (before .listed ≤ before .tests) × (before .tests + voxelTests ≤ mostTests) ⌝ }
+    requires { ⌜ SpotReady (length (now voxels)) (length (now visited)) scan (spot (scan .axes .n) slice row place) (index .0) ⌝ }
+    ensures { λ r. ⌜ Made (scannedAt (now (voxels .entry)) scan (progress (now (visited .entry)) (now (out .entry)) (before .listed) (before .tests)) (spot (scan .axes .n) slice row place) (index .0)) (before .tests + voxelTests) (now (visited .exit)) (now (out .exit)) (r .listed) (r .tests) ⌝ }
+{
+    if !face_needs_mesh(voxels, visited, index, scan.visibility_offset) {
+        let listed = before.listed;
+        let tests = before.tests + 1;
+        return Progress { listed, tests };
+    }
+    let axes = scan.axes;
+    let n = axes.n;
+    let minimum = face_scan::spot(n, slice, row, place);
+    lay_quad(voxels, visited, out, capacity, before, scan, minimum, index)
+}
+
+// Scans a row of a slice.
+fn scan_row(
+    voxels: &[u16],
+    visited: &mut [u8],
+    out: &mut [u32],
+    capacity: usize,
+    before: Progress,
+    scan: FaceScan,
+    slice: u32,
+    row: u32,
+    start: VoxelIndex,
+) -> Progress
+    requires { ⌜ (capacity ≡ listing.capacity quadNumbers (length (now out))) × (before .listed ≤ before .tests) × (before .tests + scan .row .count * voxelTests ≤ mostTests) ⌝ }
+    requires { ⌜ RowScan (length (now voxels)) (length (now visited)) scan slice row (start .0) ⌝ }
+    ensures { λ r. ⌜ Made (rowAlong (now (voxels .entry)) scan slice (progress (now (visited .entry)) (now (out .entry)) (before .listed) (before .tests)) row (start .0)) (before .tests + scan .row .count * voxelTests) (now (visited .exit)) (now (out .exit)) (r .listed) (r .tests) ⌝ }
+{
+    let span = scan.row;
+    let step = span.stride.0;
+    let count = span.count;
+    let from = span.start;
+    let mut listed = before.listed;
+    let mut tests = before.tests;
+    let mut k: u32 = 0;
+    let mut i = start.0;
+    while k < count {
+        let after = scan_voxel(
+            voxels,
+            visited,
+            out,
+            capacity,
+            Progress { listed, tests },
+            scan,
+            slice,
+            row,
+            from + k,
+            VoxelIndex(i),
+        );
+        listed = after.listed;
+        tests = after.tests;
+        k += 1;
+        i += step;
+    }
+    Progress { listed, tests }
+}
+
+// Scans a slice, row by row.
+fn scan_slice(
+    voxels: &[u16],
+    visited: &mut [u8],
+    out: &mut [u32],
+    capacity: usize,
+    before: Progress,
+    scan: FaceScan,
+    slice: u32,
+    start: VoxelIndex,
+) -> Progress
+    requires { ⌜ (capacity ≡ listing.capacity quadNumbers (length (now out))) × (before .listed ≤ before .tests) × (before .tests + scan .rows .count * (scan .row .count * voxelTests) ≤ mostTests) ⌝ }
+    requires { ⌜ SliceScan (length (now voxels)) (length (now visited)) scan slice (start .0) ⌝ }
+    ensures { λ r. ⌜ Made (sliceAlong (now (voxels .entry)) scan (progress (now (visited .entry)) (now (out .entry)) (before .listed) (before .tests)) slice (start .0)) (before .tests + scan .rows .count * (scan .row .count * voxelTests)) (now (visited .exit)) (now (out .exit)) (r .listed) (r .tests) ⌝ }
+{
+    let span = scan.rows;
+    let step = span.stride.0;
+    let count = span.count;
+    let from = span.start;
+    let mut listed = before.listed;
+    let mut tests = before.tests;
+    let mut k: u32 = 0;
+    let mut i = start.0;
+    while k < count {
+        let after = scan_row(
+            voxels,
+            visited,
+            out,
+            capacity,
+            Progress { listed, tests },
+            scan,
+            slice,
+            from + k,
+            VoxelIndex(i),
+        );
+        listed = after.listed;
+        tests = after.tests;
+        k += 1;
+        i += step;
+    }
+    Progress { listed, tests }
+}
+
+// Scans all slices, low to high.
+fn scan_slices(
+    voxels: &[u16],
+    visited: &mut [u8],
+    out: &mut [u32],
+    capacity: usize,
+    before: Progress,
+    scan: FaceScan,
+    start: VoxelIndex,
+) -> Progress
+    requires { ⌜ (capacity ≡ listing.capacity quadNumbers (length (now out))) × (before .listed ≤ before .tests) × (before .tests + scan .slices .count * (scan .rows .count * (scan .row .count * voxelTests)) ≤ mostTests) ⌝ }
+    requires { ⌜ SlicesScan (length (now voxels)) (length (now visited)) scan (start .0) ⌝ }
+    ensures { λ r. ⌜ Made (slicesAlong (now (voxels .entry)) scan (progress (now (visited .entry)) (now (out .entry)) (before .listed) (before .tests)) (start .0)) (before .tests + scan .slices .count * (scan .rows .count * (scan .row .count * voxelTests))) (now (visited .exit)) (now (out .exit)) (r .listed) (r .tests) ⌝ }
+{
+    let span = scan.slices;
+    let step = span.stride.0;
+    let count = span.count;
+    let from = span.start;
+    let mut listed = before.listed;
+    let mut tests = before.tests;
+    let mut k: u32 = 0;
+    let mut i = start.0;
+    while k < count {
+        let after = scan_slice(
+            voxels,
+            visited,
+            out,
+            capacity,
+            Progress { listed, tests },
+            scan,
+            from + k,
+            VoxelIndex(i),
+        );
+        listed = after.listed;
+        tests = after.tests;
+        k += 1;
+        i += step;
+    }
+    Progress { listed, tests }
+}
+
+// The group of a face: clears the marks, and scans the interior.
+fn greedy_quads_for_face(
+    voxels: &[u16],
+    visited: &mut [u8],
+    out: &mut [u32],
+    capacity: usize,
+    before: Progress,
+    size: usize,
+    voxels_shape: UVec3,
+    interior: Extent,
+    face: OrientedBlockFace,
+) -> Progress
+    requires { ⌜ (capacity ≡ listing.capacity quadNumbers (length (now out))) × (before .listed ≤ before .tests) × (before .tests ≤ 6 * mostVoxels * voxelTests) × (size ≡ shape.size «voxels_shape») ⌝ }
+    requires { ⌜ Accepted (length (now voxels)) (length (now visited)) «voxels_shape» interior ⌝ }
+    ensures { λ r. ⌜ MadeFace size (greedyGroup interior (shape.field «voxels_shape» (now (voxels .entry))) face) (now (visited .entry)) (now (out .entry)) (before .listed) (before .tests) (now (visited .exit)) (now (out .exit)) (r .listed) (r .tests) ⌝ }
+{
+    visited::clear(visited, size);
+    let scan = FaceScan::new(voxels_shape, interior, face);
+    let minimum = interior.minimum;
+    let start = VoxelIndex::linearize(voxels_shape, minimum);
+    scan_slices(voxels, visited, out, capacity, before, scan, start)
+}
+
+// What all faces listed and tested, and how many quads each listed.
+struct Meshed {
+    listed: usize,
+    tests: u64,
+    counts: [u64; 6],
+}
+
+// The groups of all faces, one after another.
+fn mesh_faces(
+    voxels: &[u16],
+    visited: &mut [u8],
+    out: &mut [u32],
+    capacity: usize,
+    size: usize,
+    voxels_shape: UVec3,
+    interior: Extent,
+    faces: [OrientedBlockFace; 6],
+) -> Meshed
+    requires { ⌜ (capacity ≡ listing.capacity quadNumbers (length (now out))) × (size ≡ shape.size «voxels_shape») ⌝ }
+    requires { ⌜ Accepted (length (now voxels)) (length (now visited)) «voxels_shape» interior ⌝ }
+    ensures { λ r. ⌜ MadeFaces size (greedyGroups interior (shape.field «voxels_shape» (now (voxels .entry))) faces) (greedyTests interior (shape.field «voxels_shape» (now (voxels .entry))) faces) (now (visited .entry)) (now (out .entry)) (now (visited .exit)) (now (out .exit)) (r .listed) (r .tests) (r .counts) ⌝ }
+{
+    let mut counts = [0u64; 6];
+    let mut listed: usize = 0;
+    let mut tests: u64 = 0;
+    let mut k: usize = 0;
+    while k < 6 {
+        let face = faces[k];
+        let after = greedy_quads_for_face(
+            voxels,
+            visited,
+            out,
+            capacity,
+            Progress { listed, tests },
+            size,
+            voxels_shape,
+            interior,
+            face,
+        );
+        let now = after.listed;
+        counts[k] = (now - listed) as u64;
+        listed = now;
+        tests = after.tests;
+        k += 1;
+    }
+    Meshed {
+        listed,
+        tests,
+        counts,
+    }
+}
+
+// A refused call's answer.
+fn refused(number: u32, place: u64) -> GreedyAnswer
+    ensures { λ r. ⌜ r ≡ greedyAnswer 0 (refusal.refused number place) ⌝ }
+{
+    let counts = [0u64; 6];
+    GreedyAnswer {
+        refusal: number,
+        place,
+        counts,
+        tests: 0,
+    }
+}
+
+// The answer of an accepted call, what it lists, and the marks cleared again.
+fn mesh(
+    voxels: &[u16],
+    voxels_shape: UVec3,
+    size: usize,
+    interior: Extent,
+    faces: [OrientedBlockFace; 6],
+    visited: &mut [u8],
+    out: &mut [u32],
+) -> GreedyAnswer
+    requires { ⌜ size ≡ shape.size «voxels_shape» ⌝ }
+    requires { ⌜ Accepted (length (now voxels)) (length (now visited)) «voxels_shape» interior ⌝ }
+    ensures { λ r. ⌜ outcome r (now (visited .exit)) (now (out .exit)) ≡ laidOutcome (greedyTests interior (shape.field «voxels_shape» (now (voxels .entry))) faces) (listing.overwritten (replicate size 0) (now (visited .entry))) (listing.lay quadNumbers numbersOf (greedyGroups interior (shape.field «voxels_shape» (now (voxels .entry))) faces) (now (out .entry))) ⌝ }
+{
+    let capacity = out.len() / 5;
+    let meshed = mesh_faces(
+        voxels,
+        visited,
+        out,
+        capacity,
+        size,
+        voxels_shape,
+        interior,
+        faces,
+    );
+    visited::clear(visited, size);
+    let listed = meshed.listed;
+    if capacity < listed {
+        return refused(refusal::MANY_QUADS, capacity as u64);
+    }
+    let counts = meshed.counts;
+    let tests = meshed.tests;
+    GreedyAnswer {
+        refusal: 0,
+        place: 0,
+        counts,
+        tests,
+    }
+}
+
+// Quads that cover every visible face of a voxel in the interior of the box from `min` to `max`: six
+// groups in the order that greedy meshing finds them, end to end in `out`, five numbers a quad.
+pub fn greedy_quads(
+    voxels: &[u16],
+    voxels_shape: UVec3,
+    min: UVec3,
+    max: UVec3,
+    faces: [OrientedBlockFace; 6],
+    visited: &mut [u8],
+    out: &mut [u32],
+) -> GreedyAnswer
+    ensures { λ r. ⌜ outcome r (now (visited .exit)) (now (out .exit)) ≡ greedyQuads (now (voxels .entry)) «voxels_shape» min max faces (now (visited .entry)) (now (out .entry)) ⌝ }
+{
+    match bounds::enter_greedy(voxels, voxels_shape, min, max, faces, visited.len()) {
+        EntryAnswer::Refused(number, place) => refused(number, place),
+        EntryAnswer::Entered(entry) => {
+            let interior = entry.interior;
+            let size = entry.size as usize;
+            mesh(voxels, voxels_shape, size, interior, faces, visited, out)
+        }
+    }
 }

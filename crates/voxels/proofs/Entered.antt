@@ -1,4 +1,5 @@
 -- An accepted entry's interior: its minimum is not past its bound, both lie in the shape, and the code's numbers, taken modulo 2 to the 32nd, are its index and the strides.
+use mathlib.Core.Bool.{Bool}
 use mathlib.Core.Path.{_≡_, _∙_}
 use Prim.Native.Nat.{ℕ, _%_, _≤_, _<_}
 use native.Mathlib.Omega.{arith}
@@ -6,10 +7,13 @@ use Rattle.geometry.specs.declared.axis.Axis.{Axis}
 use Rattle.geometry.specs.declared.axis.Axis.the-variants.{X, Y, Z}
 use Rattle.geometry.specs.Point.{Point, along}
 use Rattle.voxels.specs.declared.extent.Extent.{Extent}
-use Rattle.voxels.specs.Shape.{index, stride, InShape}
-use Rattle.voxels.specs.Visible.{modulus}
+use Rattle.voxels.specs.Shape.{size, index, stride, InShape}
+use Rattle.voxels.specs.Extent.{Inside}
+use Rattle.voxels.specs.Visible.{stepped, modulus, visibilityOffset, offsetIndex}
 use Rattle.voxels.specs.Inner.{mostVoxels, Entered}
+use Rattle.voxels.proofs.Places.{index-below}
 use Rattle.voxels.proofs.Held.{max-small, stride-is, index-fits}
+use Rattle.voxels.proofs.Steps.{neighbour-in-box, box-in-shape, offset-leads}
 
 module _ (lent : ℕ) (shape : Point) (inner : Extent) (entered : Entered lent shape inner) where
   pub below : (a : Axis) → along a (inner .minimum) ≤ along a (inner .bound)
@@ -30,3 +34,16 @@ module _ (lent : ℕ) (shape : Point) (inner : Extent) (entered : Entered lent s
 
   pub entered-stride : (a : Axis) {d : ℕ} → d ≡ stride shape a % modulus → d ≡ stride shape a
   entered-stride a e = stride-is shape lent (entered .min) (entered .max) (entered .held) a e
+
+  -- An interior point lies in the shape,
+  pub inner-in-shape : (p : Point) → Inside inner p → InShape shape p
+  inner-in-shape p i a = let lies = i a in omega (arith, bound-within a)
+
+  -- and the wrapped offset leads from its index to that of its neighbour, which lies there too.
+  pub inner-offset : (up : Bool) (a : Axis) (p : Point) → Inside inner p → offsetIndex (index shape p) (visibilityOffset up (stride shape a)) ≡ index shape (stepped up a p)
+  inner-offset up a p i = offset-leads shape lent (entered .min) (entered .max) (entered .held) up a p (rw (entered .is) at i)
+
+  pub inner-beyond : (up : Bool) (a : Axis) (p : Point) → Inside inner p → offsetIndex (index shape p) (visibilityOffset up (stride shape a)) < size shape
+  inner-beyond up a p i =
+      rw (inner-offset up a p i)
+      (index-below shape _ (box-in-shape shape lent (entered .min) (entered .max) (entered .held) _ (neighbour-in-box (entered .min) (entered .max) up a p (rw (entered .is) at i))))

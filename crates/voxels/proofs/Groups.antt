@@ -12,12 +12,12 @@ use Rattle.voxels.proofs.Asked.{more, done}
 use Rattle.voxels.proofs.Pushed.{set-after, pushed-append, pushed-counts, all-laid, lay-many, lay-fits}
 
 -- One more of a list.
-take-next : {A : Type 0} (l : List A) (k : ℕ) (d : A) → k < length l → take (k + 1) l ≡ take k l ++ (getD l k d ∷ [])
+pub take-next : {A : Type 0} (l : List A) (k : ℕ) (d : A) → k < length l → take (k + 1) l ≡ take k l ++ (getD l k d ∷ [])
 take-next [] k d h = absurd (not-suc-le-zero h)
 take-next (a ∷ l) zero d h = refl
 take-next (a ∷ l) (suc k) d h = rw (suc-add k 1) (ap (λ (r : List _). a ∷ r) (take-next l k d (omega arith)))
 
-take-whole : {A : Type 0} (l : List A) (k : ℕ) → length l ≤ k → take k l ≡ l
+pub take-whole : {A : Type 0} (l : List A) (k : ℕ) → length l ≤ k → take k l ≡ l
 take-whole [] zero h = refl
 take-whole [] (suc k) h = refl
 take-whole (a ∷ l) zero h = absurd (not-suc-le-zero h)
@@ -28,7 +28,7 @@ length-take-at l zero h = refl
 length-take-at [] (suc k) h = absurd (not-suc-le-zero h)
 length-take-at (a ∷ l) (suc k) h = ap suc (length-take-at l k (omega arith))
 
-map-one-more : {A B : Type 0} (f : A → B) (l : List A) (a : A) → map f (l ++ (a ∷ [])) ≡ map f l ++ (f a ∷ [])
+pub map-one-more : {A B : Type 0} (f : A → B) (l : List A) (a : A) → map f (l ++ (a ∷ [])) ≡ map f l ++ (f a ∷ [])
 map-one-more f [] a = refl
 map-one-more f (x ∷ l) a = ap (λ (r : List _). f x ∷ r) (map-one-more f l a)
 

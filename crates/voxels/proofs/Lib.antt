@@ -13,10 +13,10 @@ pub mod Asked
 pub mod Scan
 -- What checks 1 to 5 leave.
 pub mod Held
--- Of an accepted entry.
-pub mod Entered
 -- Of steps to a neighbour.
 pub mod Steps
+-- Of an accepted entry.
+pub mod Entered
 -- What refusal 8 tells its reader.
 pub mod Lowest
 -- Of items written into a buffer.

@@ -39,7 +39,7 @@ unfolding gathered every
 gathered-every f d g a zero = refl
 gathered-every f d g a (suc n) = gathered-append f (g a) (every d (a + d) n g) ∙ ap (λ (r : List _). gathered f (g a) ++ r) (gathered-every f d g (a + d) n)
 
-each-same : {A : Type 0} (g h : ℕ → List A) (a n : ℕ) → ((k : ℕ) → g k ≡ h k) → every 1 a n g ≡ every 1 a n h
+pub each-same : {A : Type 0} (g h : ℕ → List A) (a n : ℕ) → ((k : ℕ) → g k ≡ h k) → every 1 a n g ≡ every 1 a n h
 unfolding every
 each-same g h a zero same = refl
 each-same g h a (suc n) same = rw (same a, each-same g h (a + 1) n same)

@@ -1,0 +1,406 @@
+// Document 01, 'Greedy meshing': E1 to E9, E12 and E13. Every output is lent full of 9 and every
+// visited byte as 255, so that what was not written shows. Where an example names one face, the call
+// gets it six times: six equal groups, and six times its tests.
+use crate::show;
+use geometry::axis::SignedAxis;
+use geometry::face::OrientedBlockFace;
+use geometry::vector::UVec3;
+use libc::STDOUT_FILENO;
+
+pub fn run() {
+    one_voxel();
+    slice_of_z();
+    slice_of_y();
+    two_voxels();
+    spans();
+    boxes();
+    refusals();
+    readme();
+}
+
+// README's function.
+pub fn roof(voxels: &[u16], visited: &mut [u8], out: &mut [u32]) -> u64 {
+    let shape = UVec3 { x: 4, y: 4, z: 3 };
+    let min = UVec3 { x: 0, y: 0, z: 0 };
+    let max = UVec3 { x: 3, y: 3, z: 2 };
+    let up = OrientedBlockFace::canonical(SignedAxis::PosZ);
+    let faces = [up, up, up, up, up, up];
+    let answer = greedy::greedy_quads(voxels, shape, min, max, faces, visited, out);
+    let counts = answer.counts;
+    counts[0]
+}
+
+fn readme() {
+    let mut block = [0u16; 48];
+    block[21] = 32775;
+    block[22] = 32775;
+    let mut visited = [255u8; 48];
+    let mut out = [9u32; 30];
+    show::text(b"README's roof of two voxels:");
+    show::count(roof(&block, &mut visited, &mut out));
+    show::end();
+}
+
+// The six canonical faces.
+fn canonical() -> [OrientedBlockFace; 6] {
+    [
+        OrientedBlockFace::canonical(SignedAxis::PosX),
+        OrientedBlockFace::canonical(SignedAxis::NegX),
+        OrientedBlockFace::canonical(SignedAxis::PosY),
+        OrientedBlockFace::canonical(SignedAxis::NegY),
+        OrientedBlockFace::canonical(SignedAxis::PosZ),
+        OrientedBlockFace::canonical(SignedAxis::NegZ),
+    ]
+}
+
+// One face six times.
+fn only(normal: SignedAxis) -> [OrientedBlockFace; 6] {
+    let face = OrientedBlockFace::canonical(normal);
+    [face, face, face, face, face, face]
+}
+
+// E1 and E12: no voxel and one opaque voxel, with room for six quads, for five (two numbers short of
+// six) and for none (one number short of one). Two visited bytes more than the shape has voxels.
+fn one_voxel() {
+    let mut block = [0u16; 27];
+    let mut visited = [255u8; 29];
+    let mut none = [9u32; 4];
+    meshed(
+        b"all empty, capacity 0",
+        &block,
+        3,
+        3,
+        3,
+        canonical(),
+        &mut visited,
+        &mut none,
+    );
+    block[13] = 32775;
+    let mut whole = [9u32; 33];
+    meshed(
+        b"E1",
+        &block,
+        3,
+        3,
+        3,
+        canonical(),
+        &mut visited,
+        &mut whole,
+    );
+    let mut short = [9u32; 28];
+    meshed(
+        b"E12 capacity 5",
+        &block,
+        3,
+        3,
+        3,
+        canonical(),
+        &mut visited,
+        &mut short,
+    );
+    let mut empty = [9u32; 0];
+    meshed(
+        b"E12 capacity 0",
+        &block,
+        3,
+        3,
+        3,
+        canonical(),
+        &mut visited,
+        &mut empty,
+    );
+}
+
+// E2 and E3, on +Z.
+fn slice_of_z() {
+    let mut block = [0u16; 48];
+    let mut visited = [255u8; 48];
+    block[21] = 32775;
+    let mut first = [9u32; 31];
+    meshed(
+        b"E2 +Z",
+        &block,
+        4,
+        4,
+        3,
+        only(SignedAxis::PosZ),
+        &mut visited,
+        &mut first,
+    );
+    block[22] = 32775;
+    block[25] = 32775;
+    block[26] = 32775;
+    let mut second = [9u32; 31];
+    meshed(
+        b"E3 +Z",
+        &block,
+        4,
+        4,
+        3,
+        only(SignedAxis::PosZ),
+        &mut visited,
+        &mut second,
+    );
+}
+
+// E4, E5 and E6, on +Y, whose u is Z: one merge value a column, one a row, and a corner missing.
+fn slice_of_y() {
+    four_voxels(b"E4 +Y", 32775, 32776, 32775, 32776);
+    four_voxels(b"E5 +Y", 32775, 32775, 32776, 32776);
+    four_voxels(b"E6 +Y", 0, 32775, 32775, 32775);
+}
+
+// The voxels at (1,1,1), (2,1,1), (1,1,2) and (2,1,2).
+fn four_voxels(name: &[u8], a: u16, b: u16, c: u16, d: u16) {
+    let mut block = [0u16; 48];
+    let mut visited = [255u8; 48];
+    block[17] = a;
+    block[18] = b;
+    block[29] = c;
+    block[30] = d;
+    let mut out = [9u32; 61];
+    meshed(
+        name,
+        &block,
+        4,
+        3,
+        4,
+        only(SignedAxis::PosY),
+        &mut visited,
+        &mut out,
+    );
+}
+
+// E7, E8 and E9: a voxel and a translucent one beside it on x.
+fn two_voxels() {
+    let mut block = [0u16; 36];
+    let mut visited = [255u8; 36];
+    block[17] = 16391;
+    block[18] = 16391;
+    let mut seventh = [9u32; 31];
+    meshed(
+        b"E7 +X",
+        &block,
+        4,
+        3,
+        3,
+        only(SignedAxis::PosX),
+        &mut visited,
+        &mut seventh,
+    );
+    block[17] = 32775;
+    let mut up = [9u32; 61];
+    meshed(
+        b"E8 +X",
+        &block,
+        4,
+        3,
+        3,
+        only(SignedAxis::PosX),
+        &mut visited,
+        &mut up,
+    );
+    let mut down = [9u32; 31];
+    meshed(
+        b"E8 -X",
+        &block,
+        4,
+        3,
+        3,
+        only(SignedAxis::NegX),
+        &mut visited,
+        &mut down,
+    );
+    let mut ninth = [9u32; 31];
+    meshed(
+        b"E9 +Z",
+        &block,
+        4,
+        3,
+        3,
+        only(SignedAxis::PosZ),
+        &mut visited,
+        &mut ninth,
+    );
+}
+
+// E13: a span of two has no interior, and the marks are cleared all the same; a span of one is
+// refused.
+fn spans() {
+    let block = [32775u16; 8];
+    let mut out = [9u32; 3];
+    let mut visited = [255u8; 9];
+    meshed(
+        b"E13 span 2",
+        &block,
+        2,
+        2,
+        2,
+        canonical(),
+        &mut visited,
+        &mut out,
+    );
+    let mut few = [255u8; 4];
+    meshed(
+        b"E13 span 1",
+        &block,
+        2,
+        1,
+        2,
+        canonical(),
+        &mut few,
+        &mut out,
+    );
+    let long = [32775u16; 1028];
+    let mut many = [255u8; 1025];
+    meshed(
+        b"E13 axis 256",
+        &long,
+        256,
+        2,
+        2,
+        canonical(),
+        &mut many,
+        &mut out,
+    );
+    meshed(
+        b"E13 axis 257",
+        &long,
+        257,
+        2,
+        2,
+        canonical(),
+        &mut few,
+        &mut out,
+    );
+}
+
+// A box in the middle of a shape of opaque voxels: its interior is one voxel, which shows a face
+// where the voxel beside it is empty. One voxel more is lent than the shape has, and it is bad.
+fn boxes() {
+    let mut block = [32775u16; 126];
+    block[125] = 49152;
+    block[63] = 0;
+    let mut visited = [255u8; 125];
+    let mut out = [9u32; 6];
+    show::text(b"a box in the middle of 5x5x5");
+    let min = UVec3 { x: 1, y: 1, z: 1 };
+    let max = UVec3 { x: 3, y: 3, z: 3 };
+    let shape = UVec3 { x: 5, y: 5, z: 5 };
+    let answer = greedy::greedy_quads(&block, shape, min, max, canonical(), &mut visited, &mut out);
+    answered(answer);
+    left(&visited, &out);
+}
+
+// A refused call touches nothing: too few visited bytes, and a bad voxel on the boundary.
+fn refusals() {
+    let mut block = [32775u16; 27];
+    let mut out = [9u32; 5];
+    let mut few = [255u8; 26];
+    meshed(
+        b"26 visited bytes lent of 27",
+        &block,
+        3,
+        3,
+        3,
+        canonical(),
+        &mut few,
+        &mut out,
+    );
+    let mut visited = [255u8; 27];
+    block[2] = 49152;
+    meshed(
+        b"a bad voxel at (2,0,0)",
+        &block,
+        3,
+        3,
+        3,
+        canonical(),
+        &mut visited,
+        &mut out,
+    );
+}
+
+// A block whose box covers the whole shape: the answer, the visited bytes and the whole output.
+fn meshed(
+    name: &[u8],
+    block: &[u16],
+    x: u32,
+    y: u32,
+    z: u32,
+    faces: [OrientedBlockFace; 6],
+    visited: &mut [u8],
+    out: &mut [u32],
+) {
+    show::text(name);
+    dirty(&mut *visited);
+    let shape = UVec3 { x, y, z };
+    let min = UVec3 { x: 0, y: 0, z: 0 };
+    let max = UVec3 {
+        x: show::last(x),
+        y: show::last(y),
+        z: show::last(z),
+    };
+    let answer = greedy::greedy_quads(block, shape, min, max, faces, &mut *visited, &mut *out);
+    answered(answer);
+    left(visited, out);
+}
+
+// Sets all visited bytes to 255.
+fn dirty(visited: &mut [u8]) {
+    let mut k: usize = 0;
+    while k < visited.len() {
+        visited[k] = 255;
+        k += 1;
+    }
+}
+
+fn answered(answer: greedy::GreedyAnswer) {
+    show::text(b", greedy:");
+    if answer.refusal != 0 {
+        show::refused(answer.refusal);
+        show::text(b" at ");
+        io::print_decimal(STDOUT_FILENO, answer.place);
+        show::text(b",");
+    }
+    show::text(b" counts");
+    let counts = answer.counts;
+    let mut k: usize = 0;
+    while k < 6 {
+        show::count(counts[k]);
+        k += 1;
+    }
+    show::text(b", tests");
+    show::count(answer.tests);
+}
+
+// The visited bytes, the zeros that they begin with counted, and the output.
+fn left(visited: &[u8], out: &[u32]) {
+    show::text(b", visited");
+    let zeros = leading_zeros(visited);
+    show::count(zeros as u64);
+    show::text(b" zeros");
+    let mut j = zeros;
+    while j < visited.len() {
+        show::count(visited[j] as u64);
+        j += 1;
+    }
+    show::text(b", out");
+    let mut k: usize = 0;
+    while k < out.len() {
+        show::count(out[k] as u64);
+        k += 1;
+    }
+    show::end();
+}
+
+fn leading_zeros(visited: &[u8]) -> usize {
+    let mut k: usize = 0;
+    while k < visited.len() {
+        if visited[k] != 0 {
+            return k;
+        }
+        k += 1;
+    }
+    k
+}
