@@ -12,10 +12,10 @@ pub fn run() {
     two_voxels(b"E8 O7 T7", 32775);
     spans();
     refusals();
-    readme();
+    caller();
 }
 
-// README's function.
+// How many faces of a block of 3 by 3 by 3 look up, or 0 where it is refused.
 pub fn looks_up(voxels: &[u16], out: &mut [u32]) -> u64 {
     let shape = UVec3 { x: 3, y: 3, z: 3 };
     let min = UVec3 { x: 0, y: 0, z: 0 };
@@ -33,11 +33,11 @@ pub fn looks_up(voxels: &[u16], out: &mut [u32]) -> u64 {
     counts[0]
 }
 
-fn readme() {
+fn caller() {
     let mut block = [0u16; 27];
     block[13] = 32775;
     let mut out = [9u32; 18];
-    show::text(b"README's looks_up of E1:");
+    show::text(b"looks_up of E1:");
     show::count(looks_up(&block, &mut out));
     show::text(b", and with an empty output:");
     let mut none = [9u32; 0];

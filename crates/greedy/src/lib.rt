@@ -300,16 +300,16 @@ fn greedy_quads_for_face(
     out: &mut [u32],
     capacity: usize,
     before: Progress,
-    size: usize,
+    marks: usize,
     voxels_shape: UVec3,
     interior: Extent,
     face: OrientedBlockFace,
 ) -> Progress
-    requires { ⌜ (capacity ≡ listing.capacity quadNumbers (length (now out))) × (before .listed ≤ before .tests) × (before .tests ≤ 6 * mostVoxels * voxelTests) × (size ≡ shape.size «voxels_shape») ⌝ }
+    requires { ⌜ (capacity ≡ listing.capacity quadNumbers (length (now out))) × (before .listed ≤ before .tests) × (before .tests ≤ 6 * mostVoxels * voxelTests) × (marks ≡ shape.size «voxels_shape») ⌝ }
     requires { ⌜ Accepted (length (now voxels)) (length (now visited)) «voxels_shape» interior ⌝ }
-    ensures { λ r. ⌜ MadeFace size (greedyGroup interior (shape.field «voxels_shape» (now (voxels .entry))) face) (now (visited .entry)) (now (out .entry)) (before .listed) (before .tests) (now (visited .exit)) (now (out .exit)) (r .listed) (r .tests) ⌝ }
+    ensures { λ r. ⌜ MadeFace marks (greedyGroup interior (shape.field «voxels_shape» (now (voxels .entry))) face) (now (visited .entry)) (now (out .entry)) (before .listed) (before .tests) (now (visited .exit)) (now (out .exit)) (r .listed) (r .tests) ⌝ }
 {
-    visited::clear(visited, size);
+    visited::clear(visited, marks);
     let scan = FaceScan::new(voxels_shape, interior, face);
     let minimum = interior.minimum;
     let start = VoxelIndex::linearize(voxels_shape, minimum);
