@@ -1,5 +1,5 @@
-// Document 01, 'Greedy meshing': E1 to E9, E12 and E13. Every output is lent full of 9 and every
-// visited byte as 255, so that what was not written shows. Where an example names one face, the call
+// Document 01, 'Greedy meshing': E1 to E9, E12 and E13. Every output is lent full of 9, and the
+// visited bytes as 255 where a call is the first to get them, so that what was not written shows. Where an example names one face, the call
 // gets it six times: six equal groups, and six times its tests.
 use crate::show;
 use geometry::axis::SignedAxis;
@@ -63,8 +63,8 @@ fn only(normal: SignedAxis) -> [OrientedBlockFace; 6] {
 // six) and for none (one number short of one). Two visited bytes more than the shape has voxels.
 fn one_voxel() {
     let mut block = [0u16; 27];
-    let mut visited = [255u8; 29];
     let mut none = [9u32; 4];
+    let mut before = [255u8; 29];
     meshed(
         b"all empty, capacity 0",
         &block,
@@ -72,22 +72,15 @@ fn one_voxel() {
         3,
         3,
         canonical(),
-        &mut visited,
+        &mut before,
         &mut none,
     );
     block[13] = 32775;
     let mut whole = [9u32; 33];
-    meshed(
-        b"E1",
-        &block,
-        3,
-        3,
-        3,
-        canonical(),
-        &mut visited,
-        &mut whole,
-    );
+    let mut first = [255u8; 29];
+    meshed(b"E1", &block, 3, 3, 3, canonical(), &mut first, &mut whole);
     let mut short = [9u32; 28];
+    let mut second = [255u8; 29];
     meshed(
         b"E12 capacity 5",
         &block,
@@ -95,10 +88,11 @@ fn one_voxel() {
         3,
         3,
         canonical(),
-        &mut visited,
+        &mut second,
         &mut short,
     );
     let mut empty = [9u32; 0];
+    let mut third = [255u8; 29];
     meshed(
         b"E12 capacity 0",
         &block,
@@ -106,7 +100,7 @@ fn one_voxel() {
         3,
         3,
         canonical(),
-        &mut visited,
+        &mut third,
         &mut empty,
     );
 }
@@ -333,7 +327,6 @@ fn meshed(
     out: &mut [u32],
 ) {
     show::text(name);
-    dirty(&mut *visited);
     let shape = UVec3 { x, y, z };
     let min = UVec3 { x: 0, y: 0, z: 0 };
     let max = UVec3 {
@@ -346,15 +339,6 @@ fn meshed(
     left(visited, out);
 }
 
-// Sets all visited bytes to 255.
-fn dirty(visited: &mut [u8]) {
-    let mut k: usize = 0;
-    while k < visited.len() {
-        visited[k] = 255;
-        k += 1;
-    }
-}
-
 fn answered(answer: greedy::GreedyAnswer) {
     show::text(b", greedy:");
     if answer.refusal != 0 {
@@ -365,42 +349,23 @@ fn answered(answer: greedy::GreedyAnswer) {
     }
     show::text(b" counts");
     let counts = answer.counts;
-    let mut k: usize = 0;
-    while k < 6 {
-        show::count(counts[k]);
-        k += 1;
-    }
+    show::count(counts[0]);
+    show::count(counts[1]);
+    show::count(counts[2]);
+    show::count(counts[3]);
+    show::count(counts[4]);
+    show::count(counts[5]);
     show::text(b", tests");
     show::count(answer.tests);
 }
 
-// The visited bytes, the zeros that they begin with counted, and the output.
+// How many of the visited bytes are 0, and the output.
 fn left(visited: &[u8], out: &[u32]) {
     show::text(b", visited");
-    let zeros = leading_zeros(visited);
-    show::count(zeros as u64);
-    show::text(b" zeros");
-    let mut j = zeros;
-    while j < visited.len() {
-        show::count(visited[j] as u64);
-        j += 1;
-    }
+    show::count(show::zeros(visited) as u64);
+    show::text(b" zeros of");
+    show::count(visited.len() as u64);
     show::text(b", out");
-    let mut k: usize = 0;
-    while k < out.len() {
-        show::count(out[k] as u64);
-        k += 1;
-    }
+    show::numbers(out);
     show::end();
-}
-
-fn leading_zeros(visited: &[u8]) -> usize {
-    let mut k: usize = 0;
-    while k < visited.len() {
-        if visited[k] != 0 {
-            return k;
-        }
-        k += 1;
-    }
-    k
 }

@@ -1,4 +1,5 @@
 // Writing examples and answers to standard output, one line an example.
+ghost use Prim.Native.Nat.{_≤_};
 use geometry::axis::Axis;
 use geometry::axis::AxisPermutation;
 use geometry::face::OrientedBlockFace;
@@ -31,6 +32,37 @@ pub fn last(n: u32) -> u32 {
         return 0;
     }
     n - 1
+}
+
+// All numbers of an output.
+pub fn numbers(out: &[u32]) {
+    let mut k: usize = 0;
+    while k < out.len() {
+        text(b" ");
+        number(out[k]);
+        k += 1;
+    }
+}
+
+// 1 for a byte that is 0, and else 0.
+fn zero(byte: u8) -> usize
+    ensures { λ r. ⌜ r ≤ 1 ⌝ }
+{
+    if byte == 0 {
+        return 1;
+    }
+    0
+}
+
+// How many visited bytes are 0.
+pub fn zeros(visited: &[u8]) -> usize {
+    let mut n: usize = 0;
+    let mut k: usize = 0;
+    while k < visited.len() {
+        n += zero(visited[k]);
+        k += 1;
+    }
+    n
 }
 
 // The answer of a check.

@@ -127,15 +127,6 @@ fn meshed(name: &[u8], block: &[u16], x: u32, y: u32, z: u32, out: &mut [u32]) {
     show::count(counts[4]);
     show::count(counts[5]);
     show::text(b", out");
-    numbers(out);
+    show::numbers(out);
     show::end();
-}
-
-fn numbers(out: &[u32]) {
-    let mut k: usize = 0;
-    while k < out.len() {
-        show::text(b" ");
-        show::number(out[k]);
-        k += 1;
-    }
 }

@@ -1,9 +1,9 @@
--- `unit::numbers` is safe, and ends: the loop counts the buffer's numbers.
+-- `show::numbers` is safe, and ends: the loop counts the buffer's numbers.
 use borrow.Author.Needs.{needs}
 use Prim.Native.Nat.{_≤_, _-_}
 use lib.ListN.{length}
-use Rattle.examples.proofs.unit.numbers.Statement.{statement}
-use Rattle.examples.proofs.unit.numbers.Tie as tie
+use Rattle.examples.proofs.show.numbers.Statement.{statement}
+use Rattle.examples.proofs.show.numbers.Tie as tie
 
 abbrev Inv-loop : tie.InvT-loop
 Inv-loop out k₀ t3 k = k ≤ length out
