@@ -1,7 +1,7 @@
--- Laws of corners: where the base lies along u and v, and that no corner is past the largest axis.
+-- Laws of corners: where the base and every corner lie along n, u and v, and that no corner is past the largest axis.
 use mathlib.Core.Bool.{Bool, true, false}
-use mathlib.Core.Path.{_≡_}
-use Prim.Native.Nat.{ℕ, _≤_}
+use mathlib.Core.Path.{_≡_, refl}
+use Prim.Native.Nat.{ℕ, _+_, _≤_}
 use native.Mathlib.Omega.{arith}
 use Rattle.geometry.specs.declared.quad.UnorientedQuad.{UnorientedQuad}
 use Rattle.geometry.specs.declared.face.OrientedBlockFace.{OrientedBlockFace}
@@ -12,7 +12,7 @@ use Rattle.geometry.specs.Axes.{positive, bit, nAxis, uAxis, vAxis}
 use Rattle.geometry.specs.Quad.{largestAxis}
 use Rattle.geometry.specs.Corners.{base, corner}
 use Rattle.geometry.specs.Inner.{AtMost, WithinBounds}
-use Rattle.geometry.proofs.Frame.{frame, moved-none, moved-off, moved-at-most}
+use Rattle.geometry.proofs.Frame.{frame, moved-none, moved-on, moved-off, moved-at-most}
 
 bit-at-most : (b : Bool) → bit b ≤ 1
 bit-at-most true = omega arith
@@ -41,6 +41,41 @@ module _ (f : OrientedBlockFace) (q : UnorientedQuad) where
   -- and a step along u leaves v alone.
   pub v-by-u : (k : ℕ) (p : Point) → along (vAxis f) (moved (uAxis f) k p) ≡ along (vAxis f) p
   v-by-u = moved-off (vAxis f) (uAxis f) (frame (f .permutation) .vu)
+
+  -- A corner is so far from the base along u,
+  abbrev pub farU : Corner → ℕ
+  farU MinuMinv = 0
+  farU MaxuMinv = q .width
+  farU MinuMaxv = 0
+  farU MaxuMaxv = q .width
+
+  -- and so far along v:
+  abbrev pub farV : Corner → ℕ
+  farV MinuMinv = 0
+  farV MaxuMinv = 0
+  farV MinuMaxv = q .height
+  farV MaxuMaxv = q .height
+
+  -- those steps lead to it,
+  corner-is : (c : Corner) → corner f q c ≡ moved (vAxis f) (farV c) (moved (uAxis f) (farU c) (base f q))
+  unfolding corner
+  corner-is MinuMinv = simp moved-none
+  corner-is MaxuMinv = simp moved-none
+  corner-is MinuMaxv = simp moved-none
+  corner-is MaxuMaxv = refl
+
+  -- and so this is where it lies along n, u and v.
+  pub corner-n : (c : Corner) → along (nAxis f) (corner f q c) ≡ along (nAxis f) (q .minimum) + bit (positive (f .«n_sign»))
+  unfolding base
+  corner-n c =
+      let F = frame (f .permutation) in
+      rw (corner-is c, moved-off (nAxis f) (vAxis f) (F .nv), moved-off (nAxis f) (uAxis f) (F .nu), moved-on)
+
+  pub corner-u : (c : Corner) → along (uAxis f) (corner f q c) ≡ along (uAxis f) (q .minimum) + farU c
+  corner-u c = let F = frame (f .permutation) in rw (corner-is c, moved-off (uAxis f) (vAxis f) (F .uv), moved-on, base-u)
+
+  pub corner-v : (c : Corner) → along (vAxis f) (corner f q c) ≡ along (vAxis f) (q .minimum) + farV c
+  corner-v c = rw (corner-is c, moved-on, v-by-u (farU c) (base f q), base-v)
 
   module _ (w : WithinBounds f q) where
     base-at-most : AtMost largestAxis (base f q)

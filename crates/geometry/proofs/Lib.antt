@@ -19,6 +19,8 @@ pub mod Faces
 pub mod Floats
 -- What an accepted call is known to give.
 pub mod Accepted
+-- That a quad within the limits can be drawn.
+pub mod Drawn
 -- What it means that a contract leaves one outcome.
 pub mod One
 -- That each public contract does.

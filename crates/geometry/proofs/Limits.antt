@@ -4,7 +4,7 @@ use mathlib.Core.List.{List, [], _∷_}
 use mathlib.Core.Path.{_≡_, refl}
 use Prim.Native.Nat.{ℕ, _+_, _-_, _≤_}
 use lib.Dec.{leb}
-use borrow.Author.Tests.{leb-true, ltb-false, not-false}
+use borrow.Author.Tests.{leb-true, le-leb, ltb-false, not-false}
 use Rattle.geometry.specs.declared.axis.Axis.the-variants.{X, Y, Z}
 use Rattle.geometry.specs.declared.face.VertexIndex.{VertexIndex}
 use Rattle.geometry.specs.declared.axis.Axes.{Axes}
@@ -57,6 +57,15 @@ limits-bounds f q h =
     let (both, high) = and-both (minimumWithinLimits (q .minimum) && w) t h in
     let (least, wide) = and-both (minimumWithinLimits (q .minimum)) w both in
     record { least = voxel-at-most _ least; wide = side-at-most _ _ wide; high = side-at-most _ _ high }
+
+-- A quad with sides that keeps to the bounds is within the limits.
+pub bounds-limits : (f : OrientedBlockFace) (q : UnorientedQuad) → WithinBounds f q → 1 ≤ q .width → 1 ≤ q .height → withinLimits (axesOf (f .permutation)) q ≡ true
+unfolding withinLimits minimumWithinLimits sideWithinLimits along
+bounds-limits f q b some-width some-height =
+    let x = le-leb (q .minimum .x) (largestAxis - 1) (b .least X) in
+    let y = le-leb (q .minimum .y) (largestAxis - 1) (b .least Y) in
+    let z = le-leb (q .minimum .z) (largestAxis - 1) (b .least Z) in
+    rw (x, y, z, le-leb 1 (q .width) some-width, le-leb _ largestAxis (b .wide), le-leb 1 (q .height) some-height, le-leb _ largestAxis (b .high))
 
 -- ---- what an order that has passed tells
 

@@ -10,4 +10,7 @@ pub mod Corners
 pub mod Vertices
 pub mod Textures
 pub mod Answers
+-- What is shown for whoever draws a quad:
+pub mod Statements
+-- For private contracts alone:
 pub mod Inner

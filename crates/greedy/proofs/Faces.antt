@@ -29,7 +29,7 @@ use Rattle.greedy.specs.declared.face_scan.FaceScan.{FaceScan}
 use Rattle.greedy.specs.Group.{visited, State, fresh, roomU, roomV}
 use Rattle.greedy.specs.Greedy.{quadNumbers, numbersOf, greedyGroup}
 use Rattle.greedy.specs.Inner.{Touches, RowReady, QuadReady, faster, slower, spot, spanOf, faceScan, Scanned, progress, SpotReady, RowScan, SliceScan, SlicesScan, slicesAlong, voxelTests, Accepted, Made, MadeFace}
-use Rattle.greedy.proofs.Contains.{spread, spread-n, spread-u, spread-v, spread-index, spread-inside}
+use Rattle.greedy.proofs.Spread.{spread, spread-n, spread-u, spread-v, spread-index, spread-inside}
 use Rattle.greedy.proofs.Sweeps.{spot-index, spot-inside, Same, group-same}
 
 -- ---- clearing

@@ -29,7 +29,7 @@ use Rattle.greedy.specs.Merger.{voxelMerger}
 use Rattle.greedy.specs.Greedy.{listed, quadNumbers, numbersOf, greedyGroup}
 use Rattle.greedy.specs.Inner.{steps, quadAt, faster, slower, spot, spanOf, faceScan, Scanned, laidAt, scannedAt, rowAlong, sliceAlong, slicesAlong}
 use Rattle.greedy.proofs.Loops.{quad-wide, quad-high}
-use Rattle.greedy.proofs.Contains.{spread, spread-index, spread-inside}
+use Rattle.greedy.proofs.Spread.{spread, spread-index, spread-inside}
 use Rattle.greedy.proofs.Marks.{quad-length, quad-rest}
 use Rattle.greedy.proofs.Told.{Tells, tells-more, needs-same, quad-same}
 

@@ -27,7 +27,8 @@ use Rattle.greedy.specs.Group.{contains, visited, passes, Pick, roomU, r
 use Rattle.greedy.specs.Merger.{Walked, follows, rowWalk, rowsWalk, voxelMerger}
 use Rattle.greedy.specs.Inner.{walked, walkedRows, stepBy, needsAt, joinsAt, rowAt, quadAt, markQuadAt}
 use Rattle.greedy.proofs.Walks.{walk-passes, walk-fails, rows-whole, rows-broken, row-at-most}
-use Rattle.greedy.proofs.Contains.{spread, spread-index, spread-inside, spread-contained, contains-in, reach}
+use Rattle.greedy.proofs.Spread.{spread, spread-index, spread-inside}
+use Rattle.greedy.proofs.Contains.{contains-true, spread-contained, reached}
 use Rattle.greedy.proofs.Marks.{quad-hits, quad-misses}
 
 or-true : (a : Bool) → a || true ≡ true
@@ -66,10 +67,10 @@ module _ (lent : ℕ) (shape : Point) (inner : Extent) (entered : Entered lent s
       rw (visited-more f qs q x)
       (split (contains f q x)
       (λ t.
-      let k = contains-in f q x t in
+      let k = contains-true f q x t in
       let i : ℕ = along (uAxis f) x - along (uAxis f) (q .minimum) in
       let j : ℕ = along (vAxis f) x - along (vAxis f) (q .minimum) in
-      let at-x : index shape (q .minimum) + j * dv + i * du ≡ index shape x = sym (spread-index f shape i j (q .minimum)) ∙ ap (index shape) (reach f q x t) in
+      let at-x : index shape (q .minimum) + j * dv + i * du ≡ index shape x = sym (spread-index f shape i j (q .minimum)) ∙ ap (index shape) (reached f q x k) in
       let below : index shape x < length marks = omega (arith, index-below shape x (inner-in-shape lent shape inner entered x hx)) in
       let hit : getD (markQuadAt du (q .width) dv (q .height) marks (index shape (q .minimum))) (index shape x) 0 ≡ 1 =
       rw at-x at (quad-hits du (q .width) dv (q .height) marks (index shape (q .minimum)) i j (omega arith) (omega arith) (rw at-x below)) in

@@ -9,5 +9,7 @@ pub mod Faces
 pub mod Outcome
 -- What its reader is told.
 pub mod Reader
+-- That its quads can be drawn.
+pub mod Drawn
 -- That the public contract leaves one outcome.
 pub mod Unique

@@ -23,7 +23,7 @@ take-whole [] (suc k) h = refl
 take-whole (a ∷ l) zero h = absurd (not-suc-le-zero h)
 take-whole (a ∷ l) (suc k) h = ap (λ (r : List _). a ∷ r) (take-whole l k (omega arith))
 
-length-take-at : {A : Type 0} (l : List A) (k : ℕ) → k ≤ length l → length (take k l) ≡ k
+pub length-take-at : {A : Type 0} (l : List A) (k : ℕ) → k ≤ length l → length (take k l) ≡ k
 length-take-at l zero h = refl
 length-take-at [] (suc k) h = absurd (not-suc-le-zero h)
 length-take-at (a ∷ l) (suc k) h = ap suc (length-take-at l k (omega arith))

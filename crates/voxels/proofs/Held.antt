@@ -36,32 +36,53 @@ axis-at-most : (n : ℕ) → badAxis n ≡ false → n ≤ largestAxis
 unfolding badAxis
 axis-at-most n h = split (eqb n 0) (λ t. let z = eqb-true n 0 t in omega arith) (λ f. ltb-false largestAxis n (rw f at h))
 
--- So the shape has at most 16,777,216 voxels.
-shape-small : (shape : Point) → ((a : Axis) → badAxis (along a shape) ≡ false) → size shape ≤ mostVoxels
+-- So a shape of such axes has at most 16,777,216 voxels.
+shape-small : (shape : Point) → ((a : Axis) → along a shape ≤ largestAxis) → size shape ≤ mostVoxels
 unfolding size along
-shape-small s h =
-    mul-le-mul {n₂ = largestAxis * largestAxis} {m₂ = largestAxis}
-    (mul-le-mul {n₂ = largestAxis} {m₂ = largestAxis} (axis-at-most (s .x) (h X)) (axis-at-most (s .y) (h Y)))
-    (axis-at-most (s .z) (h Z))
+shape-small s h = mul-le-mul {n₂ = largestAxis * largestAxis} {m₂ = largestAxis} (mul-le-mul {n₂ = largestAxis} {m₂ = largestAxis} (h X) (h Y)) (h Z)
 
--- What checks 1 to 5 leave.
-pub bounds-held : (shape : Point) (lent : ℕ) (min max : Point) → checked (boundsChecks lent shape min max) ≡ accepted tt → Held shape lent min max
-unfolding boundsChecks
-bounds-held shape lent min max h =
-    let h5 = both-pass (badShape shape ++ fewVoxels lent shape ++ minAboveMax min max ++ maxPastShape shape max) (minIsMax min max) h in
-    let h4 = both-pass (badShape shape ++ fewVoxels lent shape ++ minAboveMax min max) (maxPastShape shape max) (h5 .0) in
-    let h3 = both-pass (badShape shape ++ fewVoxels lent shape) (minAboveMax min max) (h4 .0) in
-    let h2 = both-pass (badShape shape) (fewVoxels lent shape) (h3 .0) in
-    record {
-      short = λ a. omega (arith, axis-at-most (along a shape) (axes-pass 1 (λ a. badAxis (along a shape)) (h2 .0) a));
-      small = shape-small shape (axes-pass 1 (λ a. badAxis (along a shape)) (h2 .0));
-      enough = ltb-false lent (size shape) (first-passes _ _ _ (h2 .1));
-      spans = λ a.
-          let below = ltb-false (along a max) (along a min) (axes-pass 3 (λ a. ltb (along a max) (along a min)) (h3 .1) a) in
-          let other = eqb-false (along a min) (along a max) (axes-pass 5 (λ a. eqb (along a min) (along a max)) (h5 .1) a) in
-          omega arith;
-      within = λ a. leb-false (along a shape) (along a max) (axes-pass 4 (λ a. leb (along a shape) (along a max)) (h4 .1) a);
-    }
+module _ (shape : Point) (lent : ℕ) (min max : Point) (passed : checked (boundsChecks lent shape min max) ≡ accepted tt) where
+  -- Checks 1 to 5 have passed one by one: the first four,
+  to-4 : (checked (badShape shape ++ fewVoxels lent shape ++ minAboveMax min max ++ maxPastShape shape max) ≡ accepted tt) × (checked (minIsMax min max) ≡ accepted tt)
+  unfolding boundsChecks
+  to-4 = both-pass (badShape shape ++ fewVoxels lent shape ++ minAboveMax min max ++ maxPastShape shape max) (minIsMax min max) passed
+
+  -- the first three,
+  to-3 : (checked (badShape shape ++ fewVoxels lent shape ++ minAboveMax min max) ≡ accepted tt) × (checked (maxPastShape shape max) ≡ accepted tt)
+  to-3 = both-pass (badShape shape ++ fewVoxels lent shape ++ minAboveMax min max) (maxPastShape shape max) (to-4 .0)
+
+  -- the first two,
+  to-2 : (checked (badShape shape ++ fewVoxels lent shape) ≡ accepted tt) × (checked (minAboveMax min max) ≡ accepted tt)
+  to-2 = both-pass (badShape shape ++ fewVoxels lent shape) (minAboveMax min max) (to-3 .0)
+
+  -- and the first.
+  to-1 : (checked (badShape shape) ≡ accepted tt) × (checked (fewVoxels lent shape) ≡ accepted tt)
+  to-1 = both-pass (badShape shape) (fewVoxels lent shape) (to-2 .0)
+
+  -- No axis of the shape is above the largest,
+  shape-at-most : (a : Axis) → along a shape ≤ largestAxis
+  shape-at-most a = axis-at-most (along a shape) (axes-pass 1 (λ a. badAxis (along a shape)) (to-1 .0) a)
+
+  -- max lies in the shape,
+  max-within : (a : Axis) → along a max < along a shape
+  max-within a = leb-false (along a shape) (along a max) (axes-pass 4 (λ a. leb (along a shape) (along a max)) (to-3 .1) a)
+
+  -- and so below the largest axis.
+  pub max-below : (a : Axis) → along a max < largestAxis
+  max-below a = omega (arith, shape-at-most a, max-within a)
+
+  -- So this is what checks 1 to 5 leave.
+  pub bounds-held : Held shape lent min max
+  bounds-held = record {
+    short = λ a. omega (arith, shape-at-most a);
+    small = shape-small shape shape-at-most;
+    enough = ltb-false lent (size shape) (first-passes _ _ _ (to-1 .1));
+    spans = λ a.
+        let below = ltb-false (along a max) (along a min) (axes-pass 3 (λ a. ltb (along a max) (along a min)) (to-2 .1) a) in
+        let other = eqb-false (along a min) (along a max) (axes-pass 5 (λ a. eqb (along a min) (along a max)) (to-4 .1) a) in
+        omega arith;
+    within = max-within;
+  }
 
 -- What follows of a held box.
 module _ (shape : Point) (lent : ℕ) (min max : Point) (h : Held shape lent min max) where

@@ -13,6 +13,8 @@ pub mod Asked
 pub mod Scan
 -- What checks 1 to 5 leave.
 pub mod Held
+-- What check 6 leaves.
+pub mod Faces
 -- Of steps to a neighbour.
 pub mod Steps
 -- Of an accepted entry.

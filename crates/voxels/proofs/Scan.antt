@@ -118,6 +118,12 @@ module _ {A : Type 0} (P : A → Type 0) where
   each-right [] m h = h
   each-right (a ∷ l) m h = each-right l m (h .1)
 
+  -- Of those that pass a test it holds too.
+  pub each-those : (test : A → Bool) (l : List A) → Each P l → Each P (those test l)
+  unfolding Each those
+  each-those test [] h = tt
+  each-those test (a ∷ l) h = split (test a) (λ t. rw (t, those) (h .0, each-those test l (h .1))) (λ f. rw (f, those) (each-those test l (h .1)))
+
   -- A loop gives what holds of each where each of its lists does,
   pub each-every : (g : ℕ → List A) (n a : ℕ) → ((k : ℕ) → k < n → Each P (g (a + k))) → Each P (every 1 a n g)
   unfolding every Each

@@ -10,6 +10,7 @@ use Rattle.geometry.specs.declared.axis.Axis.{Axis}
 use Rattle.geometry.specs.declared.axis.Axis.the-variants.{X, Y, Z}
 use Rattle.geometry.specs.Point.{Point, at, along, put, moved}
 use Rattle.geometry.specs.Axes.{positive}
+use Rattle.geometry.proofs.Frame.{moved-on, moved-off, this-or-other}
 use Rattle.voxels.specs.declared.extent.Extent.{Extent}
 use Rattle.voxels.specs.Shape.{index, stride, InShape}
 use Rattle.voxels.specs.Extent.{box, interior, Inside}
@@ -55,10 +56,11 @@ along-next Z p = refl
 
 -- A move along an axis that does not pass the bound stays in an extent.
 pub inside-moved : (e : Extent) (a : Axis) (k : ℕ) (p : Point) → Inside e p → along a p + k < along a (e .bound) → Inside e (moved a k p)
-unfolding moved put along
-inside-moved e X k p h l = elim [ X ↦ (omega (arith, h X), l) | Y ↦ h Y | Z ↦ h Z ]
-inside-moved e Y k p h l = elim [ X ↦ h X | Y ↦ (omega (arith, h Y), l) | Z ↦ h Z ]
-inside-moved e Z k p h l = elim [ X ↦ h X | Y ↦ h Y | Z ↦ (omega (arith, h Z), l) ]
+inside-moved e a k p h l =
+    let lies = h a in
+    this-or-other a (λ (b : Axis). (along b (e .minimum) ≤ along b (moved a k p)) × (along b (moved a k p) < along b (e .bound)))
+    (rw (moved-on a k p) (omega arith, l))
+    (λ b o. rw (moved-off b a o k p) (h b))
 
 -- ---- interior, box and shape
 

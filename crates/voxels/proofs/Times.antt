@@ -18,7 +18,8 @@ use Rattle.voxels.proofs.Scan.{each-every, each-up, scan-inside}
 
 -- ---- tests
 
-both-true : (a b : Bool) → a && b ≡ true → (a ≡ true) × (b ≡ true)
+-- Where two tests pass together, each does.
+pub both-true : (a b : Bool) → a && b ≡ true → (a ≡ true) × (b ≡ true)
 both-true true b h = (refl, h)
 both-true false b h = (cc, cc)
 

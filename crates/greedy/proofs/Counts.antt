@@ -1,0 +1,105 @@
+-- Sums over a list, and how many points an extent has. Points that are counted twice over two lists are counted alike from either side; so of an extent that holds another as many
+-- points lie in the other as the other has.
+use mathlib.Core.Bool.{Bool, true, false}
+use mathlib.Core.List.{List, [], _∷_, _++_}
+use mathlib.Core.Path.{_≡_, refl, sym, _∙_, ap, fun-ext}
+use Prim.Native.Nat.{ℕ, zero, suc, _+_, _-_, _*_}
+use native.Mathlib.Nat.{mul-one, suc-mul}
+use native.Mathlib.Omega.{arith}
+use lib.ListN.{length, length-append}
+use Rattle.geometry.specs.declared.axis.Axis.{Axis}
+use Rattle.geometry.specs.declared.axis.Axis.the-variants.{X, Y, Z}
+use Rattle.geometry.specs.Point.{Point, along}
+use Rattle.geometry.specs.Axes.{bit}
+use Rattle.voxels.specs.declared.extent.Extent.{Extent}
+use Rattle.voxels.specs.Extent.{Inside, every, scan, Each, inside, samePoint, times, howMany}
+use Rattle.voxels.proofs.Scan.{each-up}
+use Rattle.voxels.proofs.Times.{inside-yes, same-true, same-itself, scan-once}
+use Rattle.greedy.specs.Demand.{total, points}
+
+-- ---- sums
+
+pub total-append : {A : Type 0} (g : A → ℕ) (l m : List A) → total g (l ++ m) ≡ total g l + total g m
+unfolding total
+total-append g [] m = omega arith
+total-append g (a ∷ l) m = omega (arith, total-append g l m)
+
+pub total-plus : {A : Type 0} (g h : A → ℕ) (l : List A) → total (λ (a : A). g a + h a) l ≡ total g l + total h l
+unfolding total
+total-plus g h [] = refl
+total-plus g h (a ∷ l) = omega (arith, total-plus g h l)
+
+-- Measures that agree at each of a list have one sum.
+pub total-same : {A : Type 0} (g h : A → ℕ) (l : List A) → Each (λ (a : A). g a ≡ h a) l → total g l ≡ total h l
+unfolding total Each
+total-same g h [] e = refl
+total-same g h (a ∷ l) e = omega (arith, e .0, total-same g h l (e .1))
+
+pub total-none : {A : Type 0} (l : List A) → total (λ (a : A). 0) l ≡ 0
+unfolding total
+total-none [] = refl
+total-none (a ∷ l) = omega (arith, total-none l)
+
+-- A sum of ones is the length,
+pub total-ones : {A : Type 0} (l : List A) → total (λ (a : A). 1) l ≡ length l
+unfolding total
+total-ones [] = refl
+total-ones (a ∷ l) = omega (arith, total-ones l)
+
+-- and how many pass a test is a sum.
+pub total-bits : {A : Type 0} (test : A → Bool) (l : List A) → total (λ (a : A). bit (test a)) l ≡ howMany test l
+unfolding total howMany
+total-bits test [] = refl
+total-bits test (a ∷ l) = omega (arith, total-bits test l)
+
+pub howMany-append : {A : Type 0} (test : A → Bool) (l m : List A) → howMany test (l ++ m) ≡ howMany test l + howMany test m
+howMany-append test l m = sym (total-bits test (l ++ m)) ∙ total-append _ l m ∙ omega (arith, total-bits test l, total-bits test m)
+
+-- ---- counted twice
+
+-- Two tests that pass together are one.
+pub one-test : (a b : Bool) → (a ≡ true → b ≡ true) → (b ≡ true → a ≡ true) → a ≡ b
+one-test true b there back = sym (there refl)
+one-test false true there back = back refl
+one-test false false there back = refl
+
+-- Whether two points are one is the same asked either way round.
+same-back : (p q : Point) → samePoint p q ≡ samePoint q p
+same-back p q = one-test _ _ (λ t. rw (same-true p q t) (same-itself q)) (λ t. rw (same-true q p t) (same-itself p))
+
+-- How many times the points of one list stand in another is how many times those of the other stand in the one.
+pub times-swap : (l m : List Point) → total (λ (p : Point). times p m) l ≡ total (λ (q : Point). times q l) m
+unfolding total times
+times-swap [] m = sym (total-none m)
+times-swap (p ∷ l) m = omega (arith, times-swap l m, one m, total-plus (λ (q : Point). bit (samePoint q p)) (λ (q : Point). times q l) m)
+  where
+    one : (m : List Point) → times p m ≡ total (λ (q : Point). bit (samePoint q p)) m
+    one [] = refl
+    one (q ∷ m) = omega (arith, one m, ap bit (same-back p q))
+
+-- Of an extent's points as many lie in another as the other has, where those all lie in the first.
+pub points-inside : (e b : Extent) → Each (Inside e) (scan b) → total (λ (p : Point). bit (inside b p)) (scan e) ≡ points b
+points-inside e b h =
+    ap (λ (g : Point → ℕ). total g (scan e)) (fun-ext (λ p. sym (scan-once p b)))
+    ∙ times-swap (scan e) (scan b)
+    ∙ total-same _ (λ (p : Point). 1) (scan b) (each-up (Inside e) (λ (p : Point). times p (scan e) ≡ 1) (λ p i. scan-once p e ∙ ap bit (inside-yes e p i)) (scan b) h)
+    ∙ total-ones (scan b)
+
+-- ---- how many points an extent has
+
+-- How long an extent is on an axis.
+abbrev pub span : Extent → Axis → ℕ
+span e a = along a (e .bound) - along a (e .minimum)
+
+-- A loop whose lists are alike in length.
+pub every-length : {A : Type 0} (g : ℕ → List A) (m n a : ℕ) → ((k : ℕ) → length (g k) ≡ m) → length (every 1 a n g) ≡ n * m
+unfolding every
+every-length g m zero a e = omega arith
+every-length g m (suc n) a e = length-append (g a) (every 1 (a + 1) n g) ∙ omega (arith, e a, every-length g m n (a + 1) e, suc-mul n m)
+
+-- An extent has as many points as its three lengths say.
+pub scan-length : (e : Extent) → points e ≡ span e X * (span e Y * span e Z)
+unfolding scan along
+scan-length e =
+    every-length _ (span e Y * span e X) (span e Z) (e .minimum .z) (λ z. every-length _ (span e X) (span e Y) (e .minimum .y) (λ y. every-length _ 1 (span e X) (e .minimum .x) (λ x. refl) ∙ mul-one (span e X)))
+    ∙ omega arith

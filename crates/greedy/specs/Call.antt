@@ -1,0 +1,74 @@
+-- Demand 3, of a call: what stands in the output at exit, cut into groups by the answer's counts. That every call which answers 0 has it is `call-holds`, and what refusal 9 leaves is
+-- `nine-holds` (proofs/Call.antt); both are about the contract of `greedy_quads` itself.
+use mathlib.Core.List.{List, [], _∷_, map}
+use mathlib.Core.Path.{_≡_}
+use Prim.Native.Nat.{ℕ, zero, suc, _-_, _*_}
+use lib.ListN.{length, getD, take, drop}
+use Rattle.geometry.specs.declared.quad.UnorientedQuad.{UnorientedQuad}
+use Rattle.geometry.specs.declared.face.OrientedBlockFace.{OrientedBlockFace}
+use Rattle.geometry.specs.Point.{Point, at}
+use Rattle.geometry.specs.Statements.{Drawn}
+use Rattle.voxels.specs.declared.extent.Extent.{Extent}
+use Rattle.voxels.specs.Shape.{Field, field}
+use Rattle.voxels.specs.Extent.{interior, Each}
+use Rattle.voxels.specs.Listing.{joined}
+use Rattle.greedy.specs.declared.GreedyAnswer.{GreedyAnswer}
+use Rattle.greedy.specs.Greedy.{greedyGroup, quadNumbers, greedyTests}
+use Rattle.greedy.specs.Demand.{Cover, Areas, Tests, Consistent}
+
+-- ---- quads in an output
+
+-- The quad of an output's first numbers: minimum x, y, z, width, height. (`getD`'s last argument is what stands past the end of the list.)
+unfoldable pub quadFrom : List ℕ → UnorientedQuad
+quadFrom out = record { minimum = at (getD out 0 0) (getD out 1 0) (getD out 2 0); width = getD out 3 0; height = getD out 4 0 }
+
+-- The first n quads of an output.
+unfoldable pub quadsIn : ℕ → List ℕ → List UnorientedQuad
+quadsIn zero out = []
+quadsIn (suc n) out = quadFrom out ∷ quadsIn n (drop quadNumbers out)
+
+-- The groups of an output, cut out by their counts: "Groups lie end to end from the start".
+unfoldable pub groupsIn : List ℕ → List ℕ → List (List UnorientedQuad)
+groupsIn [] out = []
+groupsIn (n ∷ counts) out = quadsIn n out ∷ groupsIn counts (drop (n * quadNumbers) out)
+
+-- Something holds of the items of two lists, the first with the first, the second with the second, and so on, and the lists are equally long.
+unfoldable pub Matched : {A B : Type 0} → (A → B → Type 0) → List A → List B → Type 0
+Matched P [] [] = Unit {0}
+Matched P [] (b ∷ m) = ⊥
+Matched P (a ∷ l) [] = ⊥
+Matched P (a ∷ l) (b ∷ m) = P a b × Matched P l m
+
+-- ---- a call that answers 0
+
+-- Of a block, a box, six faces, the answer and the output at exit.
+pub record CallHolds (voxels : List ℕ) (shape min max : Point) (faces : List OrientedBlockFace) (answer : GreedyAnswer) (out : List ℕ) : Type 0 where
+  -- The groups that the six counts cut out of the output are one a face. "every interior voxel whose face is visible lies in exactly one quad of that face's group, no other voxel lies in any of them,
+  -- and their areas sum to the number of visible faces".
+  pub groups : Matched (λ (f : OrientedBlockFace) (quads : List UnorientedQuad). Cover f (field shape voxels) (interior min max) quads × Areas f (field shape voxels) (interior min max) quads) faces (groupsIn (answer .counts) out)
+  -- Every quad is within check 12's limits on its own face, and so all that is asked of it for drawing is given.
+  pub drawn : Matched (λ (f : OrientedBlockFace) (quads : List UnorientedQuad). Each (Drawn f) quads) faces (groupsIn (answer .counts) out)
+  -- The tests are those that the rule makes, summed over the six faces,
+  pub tests : answer .tests ≡ greedyTests (interior min max) (field shape voxels) faces
+  -- and for each face they "number at most the interior voxels plus three times the visible faces".
+  pub bounds : Each (λ (f : OrientedBlockFace). Tests f (field shape voxels) (interior min max) (greedyGroup (interior min max) (field shape voxels) f .tests)) faces
+
+-- ---- a call that is refused by 9
+
+-- The first n items of lists that lie end to end, list by list.
+unfoldable pub firstOf : {A : Type 0} → ℕ → List (List A) → List (List A)
+firstOf n [] = []
+firstOf n (l ∷ ls) = take n l ∷ firstOf (n - length l) ls
+
+-- The rule's groups, one a face.
+abbrev pub ruleGroups : Extent → Field → List OrientedBlockFace → List (List UnorientedQuad)
+ruleGroups inner v faces = map (λ (f : OrientedBlockFace). greedyGroup inner v f .quads) faces
+
+-- The place of 9 is the capacity, and so many quads were written.
+pub record NineHolds (voxels : List ℕ) (shape min max : Point) (faces : List OrientedBlockFace) (answer : GreedyAnswer) (out : List ℕ) : Type 0 where
+  -- They are "the first quads of the listing up to its capacity",
+  pub first : quadsIn (answer .place) out ≡ take (answer .place) (joined (ruleGroups (interior min max) (field shape voxels) faces))
+  -- which are the first of each group,
+  pub parts : quadsIn (answer .place) out ≡ joined (firstOf (answer .place) (ruleGroups (interior min max) (field shape voxels) faces))
+  -- and those of a group are disjoint and show only visible voxels.
+  pub disjoint : Matched (λ (f : OrientedBlockFace) (quads : List UnorientedQuad). Consistent f (field shape voxels) (interior min max) quads) faces (firstOf (answer .place) (ruleGroups (interior min max) (field shape voxels) faces))
