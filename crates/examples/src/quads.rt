@@ -2,6 +2,7 @@
 // visited bytes as 255 where a call is the first to get them, so that what was not written shows. Where an example names one face, the call
 // gets it six times: six equal groups, and six times its tests.
 use crate::show;
+use geometry::axis::AxisPermutation;
 use geometry::axis::SignedAxis;
 use geometry::face::OrientedBlockFace;
 use geometry::vector::UVec3;
@@ -12,6 +13,9 @@ pub fn run() {
     slice_of_z();
     slice_of_y();
     two_voxels();
+    six_groups();
+    odd_axes();
+    cut();
     spans();
     boxes();
     refusals();
@@ -215,6 +219,72 @@ fn two_voxels() {
         only(SignedAxis::PosZ),
         &mut visited,
         &mut ninth,
+    );
+}
+
+// E8 and E9 on all six canonical faces in one call: groups that differ.
+fn six_groups() {
+    let mut block = [0u16; 36];
+    let mut visited = [255u8; 36];
+    block[17] = 32775;
+    block[18] = 16391;
+    let mut out = [9u32; 36];
+    meshed(
+        b"E8, six faces",
+        &block,
+        4,
+        3,
+        3,
+        canonical(),
+        &mut visited,
+        &mut out,
+    );
+}
+
+// E6 on the odd face of +Y, whose u is X: the slice is scanned in the same order, and the first quad
+// is high where E6's is wide.
+fn odd_axes() {
+    let mut block = [0u16; 48];
+    let mut visited = [255u8; 48];
+    block[18] = 32775;
+    block[29] = 32775;
+    block[30] = 32775;
+    let face = OrientedBlockFace {
+        n_sign: 1,
+        permutation: AxisPermutation::Yxz,
+    };
+    let faces = [face, face, face, face, face, face];
+    let mut out = [9u32; 61];
+    meshed(
+        b"E6 +Y by Yxz",
+        &block,
+        4,
+        3,
+        4,
+        faces,
+        &mut visited,
+        &mut out,
+    );
+}
+
+// E4 with room for three of its twelve quads and two numbers more: the second group is cut.
+fn cut() {
+    let mut block = [0u16; 48];
+    let mut visited = [255u8; 48];
+    block[17] = 32775;
+    block[18] = 32776;
+    block[29] = 32775;
+    block[30] = 32776;
+    let mut out = [9u32; 17];
+    meshed(
+        b"E4 +Y, capacity 3",
+        &block,
+        4,
+        3,
+        4,
+        only(SignedAxis::PosY),
+        &mut visited,
+        &mut out,
     );
 }
 

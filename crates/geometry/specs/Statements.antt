@@ -24,7 +24,7 @@ use Rattle.geometry.specs.Textures.{flipsU, pairs, quadTextures}
 abbrev pub unitQuadAt : Point → UnorientedQuad
 unitQuadAt p = quadOfUnit (record { minimum = p })
 
--- A quad on a face can be drawn: nothing that the drawing code asks about it is refused, and each answer is the value that document 01 gives.
+-- A quad on a face can be drawn: its corners, texture pairs, positions, normals and indices are given and not refused, and each answer is the value that document 01 gives.
 pub record Drawn (f : OrientedBlockFace) (q : UnorientedQuad) : Type 0 where
   -- It is within the quad limits, so that 12 does not refuse it.
   pub within-limits : withinLimits (axesOf (f .permutation)) q ≡ true

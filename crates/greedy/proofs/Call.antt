@@ -3,10 +3,10 @@ use mathlib.Core.Bool.{true, false, _&&_}
 use mathlib.Core.List.{List, [], _∷_, _++_, map, append-assoc}
 use mathlib.Core.Path.{_≡_, refl, sym, _∙_, ap}
 use Prim.Native.Nat.{ℕ, zero, suc, _+_, _-_, _*_, _≤_, _<_}
-use native.Mathlib.Nat.{add-mul, zero-mul, suc-mul}
+use native.Mathlib.Nat.{suc-mul, div-mul-le-self}
 use native.Mathlib.Omega.{arith}
 use lib.Dec.{ltb, leb}
-use lib.ListN.{length, getD, take, drop, replicate, length-append, take-append-drop}
+use lib.ListN.{length, getD, take, drop, replicate, length-append, length-drop, take-append-drop}
 use lib.Seq.{drop-at}
 use borrow.Author.Tests.{ltb-true, ltb-false, leb-true, leb-false}
 use Rattle.geometry.specs.declared.axis.Axis.{Axis}
@@ -23,14 +23,14 @@ use Rattle.voxels.specs.Extent.{box, interior, scan, Each, inside, howMany}
 use Rattle.voxels.specs.Visible.{visible}
 use Rattle.voxels.specs.Checks.{badFacesFrom, badFaces, fewVisited, badVoxelAt, badVoxels, boundsChecks, greedyChecks}
 use Rattle.voxels.specs.Listing.{joined, overwritten, capacity, lay, atExit}
-use Rattle.voxels.proofs.Scan.{each-append}
+use Rattle.voxels.proofs.Scan.{each-append, each-up}
 use Rattle.voxels.proofs.Pushed.{lay-many, lay-fits}
 use Rattle.voxels.proofs.Groups.{take-whole, length-take-at}
 use Rattle.greedy.specs.declared.GreedyAnswer.{GreedyAnswer}
 use Rattle.greedy.specs.Group.{contains}
 use Rattle.greedy.specs.Greedy.{Listed, listed, listedGroup, quadNumbers, numbersOf, greedyGroup, greedyGroups, greedyTests, greedyAnswer, GreedyOutcome, outcome, greedyQuads}
 use Rattle.greedy.specs.Demand.{covers, Cover, Areas, Tests, Consistent}
-use Rattle.greedy.specs.Call.{quadFrom, quadsIn, groupsIn, Matched, CallHolds, firstOf, ruleGroups, NineHolds}
+use Rattle.greedy.specs.Call.{quadFrom, quadsIn, groupsIn, Matched, Meshed, TestsBounded, CallHolds, firstOf, ruleGroups, PartMeshed, NineHolds}
 use contract.Lifetimes
 use borrow.Fn.World
 use borrow.Fn.Kinds
@@ -40,6 +40,7 @@ use Rattle.greedy.proofs.greedy_quads.Kinds as greedy-quads-kinds
 use Rattle.greedy.proofs.greedy_quads.Reads as greedy-quads
 use Rattle.greedy.proofs.Demand.{greedy-cover, greedy-areas, greedy-tests}
 use Rattle.greedy.proofs.Counts.{howMany-append}
+use Rattle.greedy.specs.Drawn.{GroupDrawn}
 use Rattle.greedy.proofs.Drawn.{greedy-drawn}
 
 -- ---- cutting groups out of a list of numbers
@@ -57,6 +58,11 @@ all-length : (l : List Listed) → length (all l) ≡ length l * quadNumbers
 unfolding joined
 all-length [] = refl
 all-length (a ∷ l) = omega (arith, length-append (numbersOf a) (all l), all-length l, suc-mul (length l) quadNumbers)
+
+-- As many numbers as the capacity has fit.
+room-fits : (was : List ℕ) → capacity quadNumbers (length was) * quadNumbers ≤ length was
+unfolding capacity
+room-fits was = div-mul-le-self (length was) quadNumbers
 
 -- What was listed stands there.
 quads-in : (l : List Listed) (rest : List ℕ) → quadsIn (length l) (all l ++ rest) ≡ map (λ (a : Listed). a .quad) l
@@ -120,11 +126,6 @@ checks-numbered voxels shape min max faces lent =
     (each-append Entry (bounds ++ badFaces faces) (fewVisited lent shape) (each-append Entry bounds (badFaces faces) of-bounds (faces-numbered 0 faces)) of-visited) of-voxels
 
 -- ---- lists, item by item
-
-matched-map : {A B : Type 0} (P : A → B → Type 0) (g : A → B) → ((a : A) → P a (g a)) → (l : List A) → Matched P l (map g l)
-unfolding Matched
-matched-map P g h [] = tt
-matched-map P g h (a ∷ l) = (h a, matched-map P g h l)
 
 matched-each : {A B : Type 0} (P : A → B → Type 0) (g : A → B) (l : List A) → Each (λ (a : A). P a (g a)) l → Matched P l (map g l)
 unfolding Matched Each
@@ -241,10 +242,9 @@ module _ (voxels : List ℕ) (shape min max : Point) (faces : List OrientedBlock
       ∙ rw (left entered, take-whole (joined groups) (capacity quadNumbers (length was)) fits) (groups-in groups (drop (length (all (joined groups))) was))
       ∙ groups-back inner v faces in
       record {
-        groups = rw cut (matched-map _ _ (λ f. (greedy-cover f v inner, greedy-areas f v inner)) faces);
-        drawn = rw cut (matched-each (λ (f : OrientedBlockFace) (quads : List UnorientedQuad). Each (Drawn f) quads) _ faces (greedy-drawn voxels shape min max faces (length bytes) entered));
+        groups = rw cut (matched-each (Meshed v inner) _ faces (each-up (GroupDrawn inner v) (λ (f : OrientedBlockFace). Meshed v inner f (greedyGroup inner v f .quads)) (λ f d. record { cover = greedy-cover f v inner; areas = greedy-areas f v inner; drawn = d }) faces (greedy-drawn voxels shape min max faces (length bytes) entered)));
         tests = ap (λ (a : GreedyAnswer). a .tests) is;
-        bounds = each-all _ (λ f. greedy-tests f v inner) faces;
+        bounds = each-all (TestsBounded v inner) (λ f. greedy-tests f v inner) faces;
       })
 
   -- And what refusal 9 leaves.
@@ -256,17 +256,21 @@ module _ (voxels : List ℕ) (shape min max : Point) (faces : List OrientedBlock
       (λ t.
       let many : room < length (joined groups) = ltb-true _ _ t in
       let place : r .place ≡ room = ap (λ (a : GreedyAnswer). a .place) (made entered ∙ ap (greedyAnswer (greedyTests inner v faces)) (lay-many quadNumbers numbersOf groups was many)) in
+      let written : List ℕ = all (take room (joined groups)) in
       let short : length (take room (joined groups)) ≡ room = length-take-at (joined groups) room (omega arith) in
+      let fits : length written ≤ length was = omega (arith, all-length (take room (joined groups)), ap (λ (k : ℕ). k * quadNumbers) short, room-fits was) in
       let first : quadsIn (r .place) out ≡ take (r .place) (joined (ruleGroups inner v faces)) =
       rw (place, left entered)
       (ap (λ (k : ℕ). quadsIn k (all (take room (joined groups)) ++ drop (length (all (take room (joined groups)))) was)) (sym short)
       ∙ quads-in (take room (joined groups)) (drop (length (all (take room (joined groups)))) was)
       ∙ map-take (λ (a : Listed). a .quad) room (joined groups)
       ∙ ap (take room) (map-joined (λ (a : Listed). a .quad) groups ∙ ap joined (groups-back inner v faces))) in
+      let same : length out ≡ length was = rw (left entered) (length-append written (drop (length written) was) ∙ rw (length-drop (length written) was) (omega arith)) in
       record {
+        place = place ∙ ap (capacity quadNumbers) (sym same);
         first = first;
         parts = first ∙ first-joined (r .place) (ruleGroups inner v faces);
-        disjoint = matched-first _ _ (λ f m. part-consistent inner v f m) (r .place) faces;
+        disjoint = matched-first (PartMeshed v inner) _ (λ f m. part-consistent inner v f m) (r .place) faces;
       })
       (λ e.
       let fits : length (joined groups) ≤ room = ltb-false _ _ e in
@@ -278,8 +282,24 @@ module _ (voxels : List ℕ) (shape min max : Point) (faces : List OrientedBlock
 -- Of the contract of `greedy_quads` itself: its arguments are the voxels, the shape, min, max, the faces, the visited bytes and the output.
 module _ (κs : Lifetimes.Lfts 3) (a : World.ArgsD greedy_quads.signature κs) (r : World.ResD greedy_quads.signature κs)
     (s : Clauses.AtExit (Kinds.endedOf 3 greedy-quads-kinds.ps greedy-quads-kinds.r) κs) (post : greedy-quads.Post κs a r s) where
-  pub call-holds : r .refusal ≡ 0 → CallHolds (a .0 .now) (a .1 .0) (a .1 .1 .0) (a .1 .1 .1 .0) (a .1 .1 .1 .1 .0) r (s .1 .1 .1 .1 .1 .1 .0 .now)
+  -- A call that answers 0,
+  pub call-holds :
+      let voxels : List ℕ = a .0 .now in
+      let shape : Point = a .1 .0 in
+      let min : Point = a .1 .1 .0 in
+      let max : Point = a .1 .1 .1 .0 in
+      let faces : List OrientedBlockFace = a .1 .1 .1 .1 .0 in
+      let out : List ℕ = s .1 .1 .1 .1 .1 .1 .0 .now in
+      r .refusal ≡ 0 → CallHolds voxels shape min max faces r out
   call-holds = outcome-holds _ _ _ _ _ _ _ _ _ _ post
 
-  pub nine-holds : r .refusal ≡ 9 → NineHolds (a .0 .now) (a .1 .0) (a .1 .1 .0) (a .1 .1 .1 .0) (a .1 .1 .1 .1 .0) r (s .1 .1 .1 .1 .1 .1 .0 .now)
+  -- and one that answers 9.
+  pub nine-holds :
+      let voxels : List ℕ = a .0 .now in
+      let shape : Point = a .1 .0 in
+      let min : Point = a .1 .1 .0 in
+      let max : Point = a .1 .1 .1 .0 in
+      let faces : List OrientedBlockFace = a .1 .1 .1 .1 .0 in
+      let out : List ℕ = s .1 .1 .1 .1 .1 .1 .0 .now in
+      r .refusal ≡ 9 → NineHolds voxels shape min max faces r out
   nine-holds = outcome-nine _ _ _ _ _ _ _ _ _ _ post

@@ -16,8 +16,8 @@ use Rattle.voxels.specs.Visible.{stepped, visible}
 use Rattle.greedy.specs.Group.{sliceAt, sweep, among, contains, visited, passes, scanned, swept, group}
 use Rattle.greedy.specs.Merger.{follows, rowWalk, rowsWalk, voxelMerger}
 use Rattle.greedy.specs.Greedy.{greedyGroup, greedyGroups, greedyTests, greedyQuads}
-use Rattle.greedy.specs.Table.{block, quadsOf, testsOf, call, Holds, table}
+use Rattle.greedy.specs.Table.{block, quadsOf, testsOf, call, Holds, numbersOfAll, table}
 
 pub table-holds : Each Holds table
-unfolding table Each Holds quadsOf testsOf call block greedyQuads greedyGroups lay joined overwritten capacity boundsChecks badAxis badFacesFrom badVoxels greedyGroup greedyTests group swept scanned passes visited contains among sweep sliceAt voxelMerger rowsWalk rowWalk follows visible stepped scan every field index size class mergeValue shows uniform along put moved quadCorners quadTextures answer properSign same withinLimits minimumWithinLimits sideWithinLimits base corner flipsU
-table-holds = (refl, ((refl, refl), (refl, (refl, (refl, ((refl, refl), ((refl, refl), ((refl, refl), (refl, ((refl, refl), (refl, (refl, (refl, (refl, (refl, (refl, tt))))))))))))))))
+unfolding table Each Holds numbersOfAll quadsOf testsOf call block greedyQuads greedyGroups lay joined overwritten capacity boundsChecks badAxis badFacesFrom badVoxels greedyGroup greedyTests group swept scanned passes visited contains among sweep sliceAt voxelMerger rowsWalk rowWalk follows visible stepped scan every field index size class mergeValue shows uniform along put moved quadCorners quadTextures answer properSign same withinLimits minimumWithinLimits sideWithinLimits base corner flipsU
+table-holds = (refl, ((refl, refl), (refl, (refl, (refl, ((refl, refl), ((refl, refl), ((refl, refl), (refl, ((refl, refl), (refl, (refl, (refl, (refl, (refl, (refl, (refl, tt)))))))))))))))))

@@ -5,10 +5,11 @@ use mathlib.Core.Path.{_≡_, sym, _∙_, ap}
 use Prim.Native.Nat.{ℕ, zero, suc, _+_, _-_, _*_, _≤_, _<_}
 use native.Mathlib.Nat.{add-zero, zero-add, add-assoc, sub-zero, zero-mul, one-mul, add-mul, mul-le-mul-right}
 use native.Mathlib.Omega.{arith}
+use lib.Dec.{eqb}
 use lib.ListN.{getD}
 use borrow.Author.Tests.{eq-eqb, ne-eqb}
 use Rattle.geometry.proofs.Refusals.{split}
-use Rattle.voxels.specs.Voxel.{shows, uniform}
+use Rattle.voxels.specs.Voxel.{class, shows, uniform}
 use Rattle.voxels.specs.Visible.{offsetIndex}
 use Rattle.voxels.specs.Inner.{mostVoxels}
 use Rattle.voxels.proofs.Asked.{more, done}
@@ -82,7 +83,12 @@ walked-at-most ok next (suc n) a =
 -- ---- tests
 
 module _ (vs marks : List ℕ) (offset i : ℕ) where
-  -- A visited voxel needs no mesh, and another needs one where it shows its face.
+  -- An empty voxel needs no mesh,
+  pub empty-not : {own : ℕ} → own ≡ class (getD vs i 0) → own ≡ 0 → false ≡ needsAt vs marks offset i
+  unfolding needsAt shows
+  empty-not is e = split (eqb (getD marks i 0) 0) (λ t. rw (t, eq-eqb (class (getD vs i 0)) 0 (sym is ∙ e))) (λ f. rw f)
+
+  -- nor does a visited one, and another needs one where it shows its face.
   pub visited-not : (getD marks i 0 ≡ 0 → ⊥) → false ≡ needsAt vs marks offset i
   unfolding needsAt
   visited-not d = rw (ne-eqb (getD marks i 0) 0 d)

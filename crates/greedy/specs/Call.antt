@@ -11,7 +11,7 @@ use Rattle.geometry.specs.Statements.{Drawn}
 use Rattle.voxels.specs.declared.extent.Extent.{Extent}
 use Rattle.voxels.specs.Shape.{Field, field}
 use Rattle.voxels.specs.Extent.{interior, Each}
-use Rattle.voxels.specs.Listing.{joined}
+use Rattle.voxels.specs.Listing.{joined, capacity}
 use Rattle.greedy.specs.declared.GreedyAnswer.{GreedyAnswer}
 use Rattle.greedy.specs.Greedy.{greedyGroup, quadNumbers, greedyTests}
 use Rattle.greedy.specs.Demand.{Cover, Areas, Tests, Consistent}
@@ -41,17 +41,25 @@ Matched P (a ∷ l) (b ∷ m) = P a b × Matched P l m
 
 -- ---- a call that answers 0
 
+-- What the group of a face has: "every interior voxel whose face is visible lies in exactly one quad of that face's group, no other voxel lies in any of them, and their areas sum to the number of
+-- visible faces"; and every quad is within check 12's limits on its face, so that all that is asked of it for drawing is given.
+pub record Meshed (v : Field) (inner : Extent) (f : OrientedBlockFace) (quads : List UnorientedQuad) : Type 0 where
+  pub cover : Cover f v inner quads
+  pub areas : Areas f v inner quads
+  pub drawn : Each (Drawn f) quads
+
+-- The tests that the rule makes for a face "number at most the interior voxels plus three times the visible faces".
+abbrev pub TestsBounded : Field → Extent → OrientedBlockFace → Type 0
+TestsBounded v inner f = Tests f v inner (greedyGroup inner v f .tests)
+
 -- Of a block, a box, six faces, the answer and the output at exit.
 pub record CallHolds (voxels : List ℕ) (shape min max : Point) (faces : List OrientedBlockFace) (answer : GreedyAnswer) (out : List ℕ) : Type 0 where
-  -- The groups that the six counts cut out of the output are one a face. "every interior voxel whose face is visible lies in exactly one quad of that face's group, no other voxel lies in any of them,
-  -- and their areas sum to the number of visible faces".
-  pub groups : Matched (λ (f : OrientedBlockFace) (quads : List UnorientedQuad). Cover f (field shape voxels) (interior min max) quads × Areas f (field shape voxels) (interior min max) quads) faces (groupsIn (answer .counts) out)
-  -- Every quad is within check 12's limits on its own face, and so all that is asked of it for drawing is given.
-  pub drawn : Matched (λ (f : OrientedBlockFace) (quads : List UnorientedQuad). Each (Drawn f) quads) faces (groupsIn (answer .counts) out)
+  -- The groups that the six counts cut out of the output are one a face, and each is meshed.
+  pub groups : Matched (Meshed (field shape voxels) (interior min max)) faces (groupsIn (answer .counts) out)
   -- The tests are those that the rule makes, summed over the six faces,
   pub tests : answer .tests ≡ greedyTests (interior min max) (field shape voxels) faces
-  -- and for each face they "number at most the interior voxels plus three times the visible faces".
-  pub bounds : Each (λ (f : OrientedBlockFace). Tests f (field shape voxels) (interior min max) (greedyGroup (interior min max) (field shape voxels) f .tests)) faces
+  -- and for each face they are within their bound.
+  pub bounds : Each (TestsBounded (field shape voxels) (interior min max)) faces
 
 -- ---- a call that is refused by 9
 
@@ -64,11 +72,17 @@ firstOf n (l ∷ ls) = take n l ∷ firstOf (n - length l) ls
 abbrev pub ruleGroups : Extent → Field → List OrientedBlockFace → List (List UnorientedQuad)
 ruleGroups inner v faces = map (λ (f : OrientedBlockFace). greedyGroup inner v f .quads) faces
 
--- The place of 9 is the capacity, and so many quads were written.
+-- Part of a face's group: its quads are disjoint and show only visible voxels.
+abbrev pub PartMeshed : Field → Extent → OrientedBlockFace → List UnorientedQuad → Type 0
+PartMeshed v inner f quads = Consistent f v inner quads
+
+-- Of the same.
 pub record NineHolds (voxels : List ℕ) (shape min max : Point) (faces : List OrientedBlockFace) (answer : GreedyAnswer) (out : List ℕ) : Type 0 where
-  -- They are "the first quads of the listing up to its capacity",
+  -- The place is the capacity of the output,
+  pub place : answer .place ≡ capacity quadNumbers (length out)
+  -- and so many quads stand in it: "the first quads of the listing up to its capacity",
   pub first : quadsIn (answer .place) out ≡ take (answer .place) (joined (ruleGroups (interior min max) (field shape voxels) faces))
   -- which are the first of each group,
   pub parts : quadsIn (answer .place) out ≡ joined (firstOf (answer .place) (ruleGroups (interior min max) (field shape voxels) faces))
-  -- and those of a group are disjoint and show only visible voxels.
-  pub disjoint : Matched (λ (f : OrientedBlockFace) (quads : List UnorientedQuad). Consistent f (field shape voxels) (interior min max) quads) faces (firstOf (answer .place) (ruleGroups (interior min max) (field shape voxels) faces))
+  -- and each such part is disjoint and visible.
+  pub disjoint : Matched (PartMeshed (field shape voxels) (interior min max)) faces (firstOf (answer .place) (ruleGroups (interior min max) (field shape voxels) faces))

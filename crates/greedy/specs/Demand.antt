@@ -2,7 +2,7 @@
 -- areas sum to the number of visible faces. The voxel tests the written rule makes for a face number at most the interior voxels plus three times the visible faces". That every
 -- greedy group meets it is `demand-holds` (proofs/Demand.antt).
 --
--- Cover and areas rest neither on what picks the rectangles nor on what a group begins with: `admitted-cover` and `admitted-areas` say so of any choice made safe by `admit`, from
+-- Cover and areas rest neither on what picks the rectangles nor, beyond its being consistent, on what a group begins with: `admitted-cover` and `admitted-areas` say so of any choice made safe by `admit`, from
 -- any start that is `Consistent`.
 use mathlib.Core.Bool.{Bool, true, false, _&&_}
 use mathlib.Core.List.{List, [], _∷_}

@@ -250,8 +250,8 @@ abbrev pub voxelTests : ℕ
 voxelTests = modulus
 
 -- An ample bound on the tests of a call.
-abbrev pub mostTests : ℕ
-mostTests = 64 * mostVoxels * voxelTests
+abbrev pub ampleTests : ℕ
+ampleTests = 64 * mostVoxels * voxelTests
 
 -- What a scan promises: it made what a rule says, no more quads than tests, and at most so many tests.
 pub record Made (rule : Scanned) (most : ℕ) (marks out : List ℕ) (listed tests : ℕ) : Type 0 where

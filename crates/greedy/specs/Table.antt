@@ -22,7 +22,8 @@ use Rattle.voxels.specs.declared.extent.Extent.{Extent}
 use Rattle.voxels.specs.Shape.{size, index, field}
 use Rattle.voxels.specs.Extent.{interior}
 use Rattle.greedy.specs.declared.GreedyAnswer.{GreedyAnswer}
-use Rattle.greedy.specs.Greedy.{greedyGroup, greedyTests, quadNumbers, GreedyOutcome, greedyQuads}
+use Rattle.voxels.specs.Listing.{joined}
+use Rattle.greedy.specs.Greedy.{greedyGroup, greedyTests, listed, quadNumbers, numbersOf, GreedyOutcome, greedyQuads}
 
 -- ---- blocks
 
@@ -104,11 +105,15 @@ uv a b = record { u = asF32 (pos a); v = asF32 (pos b) }
 
 -- ---- the table
 
+-- The numbers of quads, end to end.
+unfoldable pub numbersOfAll : List UnorientedQuad → List ℕ
+numbersOfAll quads = joined (map (λ (q : UnorientedQuad). numbersOf (listed q)) quads)
+
 -- Six times (1,1,1,1,1) as a listing, and its first five.
 abbrev pub ones : ℕ → List ℕ
 ones n = replicate (n * quadNumbers) 1
 
--- E1 to E11, with E1 also as a whole call, and E12 ("E1 with capacity 5: refusal 9, place 5. Capacity 6 succeeds. All empty with capacity 0 succeeds.").
+-- E1 to E11, with E1, E8 and E9 also as whole calls, and E12 ("E1 with capacity 5: refusal 9, place 5. Capacity 6 succeeds. All empty with capacity 0 succeeds.").
 unfoldable pub table : List Example
 table =
     -- E1
@@ -134,6 +139,9 @@ table =
     meshed (at 4 3 3) (placed 1 1 1 (O 7) ∷ placed 2 1 1 (T 7) ∷ []) (face PosX ∷ face NegX ∷ []) ((quad 1 1 1 1 1 ∷ quad 2 1 1 1 1 ∷ []) ∷ (quad 1 1 1 1 1 ∷ []) ∷ []) ∷
     -- E9
     meshed (at 4 3 3) (placed 1 1 1 (O 7) ∷ placed 2 1 1 (T 7) ∷ []) (face PosZ ∷ []) ((quad 1 1 1 2 1 ∷ []) ∷ []) ∷
+    -- E8 and E9 as one call: +X and -X are E8's, +Z is E9's; on +Y and -Y, whose v is X, the two share a quad of height 2, and on -Z as on +Z
+    called (at 4 3 3) (placed 1 1 1 (O 7) ∷ placed 2 1 1 (T 7) ∷ []) 7 (record { refusal = 0; place = 0; counts = 2 ∷ 1 ∷ 1 ∷ 1 ∷ 1 ∷ 1 ∷ []; tests = 23 })
+    (numbersOfAll (quad 1 1 1 1 1 ∷ quad 2 1 1 1 1 ∷ quad 1 1 1 1 1 ∷ quad 1 1 1 1 2 ∷ quad 1 1 1 1 2 ∷ quad 1 1 1 2 1 ∷ quad 1 1 1 2 1 ∷ [])) ∷
     -- E10, on +X and on -X
     cornered (face PosX) (quad 1 2 3 4 5) (at 2 2 3) (at 2 6 3) (at 2 2 8) (at 2 6 8) ∷
     cornered (face NegX) (quad 1 2 3 4 5) (at 1 2 3) (at 1 6 3) (at 1 2 8) (at 1 6 8) ∷

@@ -12,7 +12,7 @@ ghost use Rattle.voxels.specs.Shape as shape;
 ghost use Rattle.voxels.specs.Listing as listing;
 ghost use Rattle.voxels.specs.Inner.{mostVoxels, output, pushed};
 ghost use Rattle.greedy.specs.Greedy.{quadNumbers, numbersOf, listed, greedyGroup, greedyGroups, greedyTests, greedyAnswer, outcome, greedyQuads};
-ghost use Rattle.greedy.specs.Inner.{Touches, needsAt, SpotReady, RowScan, SliceScan, SlicesScan, voxelTests, mostTests, Made, MadeFace, MadeFaces, Accepted, progress, laidAt, scannedAt, rowAlong, sliceAlong, slicesAlong, spot, laidOutcome};
+ghost use Rattle.greedy.specs.Inner.{Touches, needsAt, SpotReady, RowScan, SliceScan, SlicesScan, voxelTests, ampleTests, Made, MadeFace, MadeFaces, Accepted, progress, laidAt, scannedAt, rowAlong, sliceAlong, slicesAlong, spot, laidOutcome};
 
 mod face_scan;
 mod merge_strategy;
@@ -28,6 +28,9 @@ use voxels::index::Stride;
 use voxels::index::VoxelIndex;
 use voxels::refusal;
 use voxels::voxel;
+
+// How many numbers a listed quad has: minimum x, y, z, width, height.
+pub const QUAD_NUMBERS: usize = 5;
 
 // What greedy meshing answers.
 pub struct GreedyAnswer {
@@ -47,7 +50,7 @@ struct Progress {
     tests: u64,
 }
 
-// Whether a voxel's face needs to be meshed: it is not visited yet, it is not empty, and it shows its
+// Whether a voxel's face needs to be meshed: it is not empty, it is not visited yet, and it shows its
 // face to its neighbor.
 fn face_needs_mesh(
     voxels: &[u16],
@@ -59,12 +62,16 @@ fn face_needs_mesh(
     ensures { λ r. ⌜ r ≡ needsAt (now (voxels .entry)) (now (visited .entry)) («visibility_offset» .0) (index .0) ⌝ }
 {
     let i = index.0 as usize;
+    let voxel = voxels[i];
+    if voxel::class(voxel) == voxel::EMPTY {
+        return false;
+    }
     if visited[i] != 0 {
         return false;
     }
     let adjacent = index.offset(visibility_offset);
     let j = adjacent.0 as usize;
-    voxel::shows_face(voxels[i], voxels[j])
+    voxel::shows_face(voxel, voxels[j])
 }
 
 // Lists a quad: writes it where there is room.
@@ -76,11 +83,11 @@ fn push(
     width: u32,
     height: u32,
 ) -> usize
-    requires { ⌜ (capacity ≡ listing.capacity quadNumbers (length (now out))) × (quads ≤ mostTests) ⌝ }
+    requires { ⌜ (capacity ≡ listing.capacity quadNumbers (length (now out))) × (quads ≤ ampleTests) ⌝ }
     ensures { λ r. ⌜ output (now (out .exit)) r ≡ pushed quadNumbers numbersOf (output (now (out .entry)) quads) (listed (record { minimum = minimum; width = width; height = height })) ⌝ }
 {
     if quads < capacity {
-        let x = quads * 5;
+        let x = quads * QUAD_NUMBERS;
         let y = x + 1;
         let z = y + 1;
         let w = z + 1;
@@ -106,7 +113,7 @@ fn lay_quad(
     minimum: UVec3,
     min_index: VoxelIndex,
 ) -> Progress
-    requires { ⌜ (capacity ≡ listing.capacity quadNumbers (length (now out))) × (before .listed ≤ before .tests) × (before .tests + voxelTests ≤ mostTests) ⌝ }
+    requires { ⌜ (capacity ≡ listing.capacity quadNumbers (length (now out))) × (before .listed ≤ before .tests) × (before .tests + voxelTests ≤ ampleTests) ⌝ }
     requires { ⌜ SpotReady (length (now voxels)) (length (now visited)) scan minimum («min_index» .0) ⌝ }
     ensures { λ r. ⌜ Made (laidAt (now (voxels .entry)) scan (progress (now (visited .entry)) (now (out .entry)) (before .listed) (before .tests)) minimum («min_index» .0)) (before .tests + voxelTests) (now (visited .exit)) (now (out .exit)) (r .listed) (r .tests) ⌝ }
 {
@@ -149,7 +156,7 @@ fn scan_voxel(
     place: u32,
     index: VoxelIndex,
 ) -> Progress
-    requires { ⌜ (capacity ≡ listing.capacity quadNumbers (length (now out))) × (before .listed ≤ before .tests) × (before .tests + voxelTests ≤ mostTests) ⌝ }
+    requires { ⌜ (capacity ≡ listing.capacity quadNumbers (length (now out))) × (before .listed ≤ before .tests) × (before .tests + voxelTests ≤ ampleTests) ⌝ }
     requires { ⌜ SpotReady (length (now voxels)) (length (now visited)) scan (spot (scan .axes .n) slice row place) (index .0) ⌝ }
     ensures { λ r. ⌜ Made (scannedAt (now (voxels .entry)) scan (progress (now (visited .entry)) (now (out .entry)) (before .listed) (before .tests)) (spot (scan .axes .n) slice row place) (index .0)) (before .tests + voxelTests) (now (visited .exit)) (now (out .exit)) (r .listed) (r .tests) ⌝ }
 {
@@ -176,7 +183,7 @@ fn scan_row(
     row: u32,
     start: VoxelIndex,
 ) -> Progress
-    requires { ⌜ (capacity ≡ listing.capacity quadNumbers (length (now out))) × (before .listed ≤ before .tests) × (before .tests + scan .row .count * voxelTests ≤ mostTests) ⌝ }
+    requires { ⌜ (capacity ≡ listing.capacity quadNumbers (length (now out))) × (before .listed ≤ before .tests) × (before .tests + scan .row .count * voxelTests ≤ ampleTests) ⌝ }
     requires { ⌜ RowScan (length (now voxels)) (length (now visited)) scan slice row (start .0) ⌝ }
     ensures { λ r. ⌜ Made (rowAlong (now (voxels .entry)) scan slice (progress (now (visited .entry)) (now (out .entry)) (before .listed) (before .tests)) row (start .0)) (before .tests + scan .row .count * voxelTests) (now (visited .exit)) (now (out .exit)) (r .listed) (r .tests) ⌝ }
 {
@@ -220,7 +227,7 @@ fn scan_slice(
     slice: u32,
     start: VoxelIndex,
 ) -> Progress
-    requires { ⌜ (capacity ≡ listing.capacity quadNumbers (length (now out))) × (before .listed ≤ before .tests) × (before .tests + scan .rows .count * (scan .row .count * voxelTests) ≤ mostTests) ⌝ }
+    requires { ⌜ (capacity ≡ listing.capacity quadNumbers (length (now out))) × (before .listed ≤ before .tests) × (before .tests + scan .rows .count * (scan .row .count * voxelTests) ≤ ampleTests) ⌝ }
     requires { ⌜ SliceScan (length (now voxels)) (length (now visited)) scan slice (start .0) ⌝ }
     ensures { λ r. ⌜ Made (sliceAlong (now (voxels .entry)) scan (progress (now (visited .entry)) (now (out .entry)) (before .listed) (before .tests)) slice (start .0)) (before .tests + scan .rows .count * (scan .row .count * voxelTests)) (now (visited .exit)) (now (out .exit)) (r .listed) (r .tests) ⌝ }
 {
@@ -262,7 +269,7 @@ fn scan_slices(
     scan: FaceScan,
     start: VoxelIndex,
 ) -> Progress
-    requires { ⌜ (capacity ≡ listing.capacity quadNumbers (length (now out))) × (before .listed ≤ before .tests) × (before .tests + scan .slices .count * (scan .rows .count * (scan .row .count * voxelTests)) ≤ mostTests) ⌝ }
+    requires { ⌜ (capacity ≡ listing.capacity quadNumbers (length (now out))) × (before .listed ≤ before .tests) × (before .tests + scan .slices .count * (scan .rows .count * (scan .row .count * voxelTests)) ≤ ampleTests) ⌝ }
     requires { ⌜ SlicesScan (length (now voxels)) (length (now visited)) scan (start .0) ⌝ }
     ensures { λ r. ⌜ Made (slicesAlong (now (voxels .entry)) scan (progress (now (visited .entry)) (now (out .entry)) (before .listed) (before .tests)) (start .0)) (before .tests + scan .slices .count * (scan .rows .count * (scan .row .count * voxelTests))) (now (visited .exit)) (now (out .exit)) (r .listed) (r .tests) ⌝ }
 {
@@ -395,7 +402,7 @@ fn mesh(
     requires { ⌜ Accepted (length (now voxels)) (length (now visited)) «voxels_shape» interior ⌝ }
     ensures { λ r. ⌜ outcome r (now (visited .exit)) (now (out .exit)) ≡ laidOutcome (greedyTests interior (shape.field «voxels_shape» (now (voxels .entry))) faces) (listing.overwritten (replicate size 0) (now (visited .entry))) (listing.lay quadNumbers numbersOf (greedyGroups interior (shape.field «voxels_shape» (now (voxels .entry))) faces) (now (out .entry))) ⌝ }
 {
-    let capacity = out.len() / 5;
+    let capacity = out.len() / QUAD_NUMBERS;
     let meshed = mesh_faces(
         voxels,
         visited,
@@ -422,7 +429,14 @@ fn mesh(
 }
 
 // Quads that cover every visible face of a voxel in the interior of the box from `min` to `max`: six
-// groups in the order that greedy meshing finds them, end to end in `out`, five numbers a quad.
+// groups in the order of `faces`, end to end in `out`, five numbers a quad, each group's quads in the
+// order that greedy meshing finds them.
+//
+// Anything may be handed in. A refused call has zero counts and tests; by 1 to 8 it leaves both
+// buffers as they were, by 9, more quads than fit, the first of them in `out`. `visited` has a byte a
+// voxel of the shape, or more. What it holds does not matter; where the call is not refused by 1 to 8
+// those bytes are 0 afterwards. Nothing past the last quad written in `out`, and no other byte of
+// `visited`, is changed.
 pub fn greedy_quads(
     voxels: &[u16],
     voxels_shape: UVec3,
