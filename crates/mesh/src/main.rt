@@ -1,0 +1,106 @@
+// Prints the quads of a block of voxels.
+//
+//     mesh [--unit] [--box X0 Y0 Z0 X1 Y1 Z1] X Y Z < BLOCK
+//
+// BLOCK has the X·Y·Z voxels of the block, x fastest, then y, then z, two bytes each, the low byte
+// first. The block is meshed on the six faces of a cube, and a line is printed for each quad: the
+// face and the quad's minimum x, y and z, width and height. The last line has the number of quads of
+// each face and the tests. `--unit` meshes unit quads, which have a minimum alone and take no tests,
+// and `--box` a part of the block, both corners included. What is wrong is said on standard error,
+// and then nothing is printed.
+mod block;
+mod say;
+mod show;
+mod space;
+mod words;
+
+use geometry::axis::SignedAxis;
+use geometry::face::OrientedBlockFace;
+use voxels::bounds;
+use voxels::bounds::EntryCheck;
+use words::Job;
+
+// The six faces of a cube, in the order of `show::face`.
+fn cube() -> [OrientedBlockFace; 6] {
+    [
+        OrientedBlockFace::canonical(SignedAxis::PosX),
+        OrientedBlockFace::canonical(SignedAxis::NegX),
+        OrientedBlockFace::canonical(SignedAxis::PosY),
+        OrientedBlockFace::canonical(SignedAxis::NegY),
+        OrientedBlockFace::canonical(SignedAxis::PosZ),
+        OrientedBlockFace::canonical(SignedAxis::NegZ),
+    ]
+}
+
+// Meshes unit quads: at most 131,072 of them, three numbers each.
+fn mesh_unit(job: Job, voxels: &[u16]) {
+    let mut room = space::unit_quads();
+    let out: &mut [u32] = &mut room;
+    let shape = job.shape;
+    let min = job.min;
+    let max = job.max;
+    let answer = simple::visible_block_faces(voxels, shape, min, max, cube(), out);
+    if answer.refusal != 0 {
+        say::refused(answer.refusal, answer.place);
+        return;
+    }
+    let counts = answer.counts;
+    show::groups(out, 3, counts);
+    show::counts(counts);
+    show::end();
+}
+
+// Meshes greedy quads: at most 131,072 of them, five numbers each.
+fn mesh_greedy(job: Job, voxels: &[u16]) {
+    let mut marks = space::visited();
+    let visited: &mut [u8] = &mut marks;
+    let mut room = space::greedy_quads();
+    let out: &mut [u32] = &mut room;
+    let shape = job.shape;
+    let min = job.min;
+    let max = job.max;
+    let answer = greedy::greedy_quads(voxels, shape, min, max, cube(), visited, out);
+    if answer.refusal != 0 {
+        say::refused(answer.refusal, answer.place);
+        return;
+    }
+    let counts = answer.counts;
+    show::groups(out, 5, counts);
+    show::counts(counts);
+    show::tests(answer.tests);
+}
+
+// Reads a block of so many voxels and meshes it.
+fn mesh_block(job: Job, size: u32) {
+    let mut room = space::voxels();
+    let voxels: &mut [u16] = &mut room;
+    if !block::read(size, voxels) {
+        return;
+    }
+    if job.unit {
+        mesh_unit(job, voxels);
+        return;
+    }
+    mesh_greedy(job, voxels);
+}
+
+fn main() {
+    let job = words::read();
+    if job.wrong {
+        return;
+    }
+    let shape = job.shape;
+    match bounds::check_shape(shape) {
+        EntryCheck::Refused(number, place) => {
+            say::refused(number, place);
+            return;
+        }
+        EntryCheck::Passed => {}
+    }
+    let size = block::size(shape.x, shape.y, shape.z);
+    if size > block::MOST_VOXELS {
+        say::many_voxels(size as u64);
+        return;
+    }
+    mesh_block(job, size);
+}

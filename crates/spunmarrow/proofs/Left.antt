@@ -1,0 +1,46 @@
+-- What a mesher's call leaves: the check of its faces decides, or the mesher.
+use mathlib.Core.List.{List}
+use mathlib.Core.Path.{_≡_, sym, _∙_}
+use Prim.Native.Nat.{ℕ}
+use lib.IntN.{ℤ}
+use Rattle.geometry.specs.declared.face.OrientedBlockFace.{OrientedBlockFace}
+use Rattle.geometry.specs.Point.{Point}
+use Rattle.geometry.specs.Refusal.{Answer, accepted, refused, checked}
+use Rattle.simple.specs.declared.UnitAnswer.{UnitAnswer}
+use Rattle.simple.specs.Unit.{outcome, visibleBlockFaces}
+use Rattle.greedy.specs.declared.GreedyAnswer.{GreedyAnswer}
+use Rattle.greedy.specs.Greedy as greedy
+use Rattle.greedy.specs.Greedy.{greedyQuads}
+use Rattle.spunmarrow.specs.Numbers.{pointOf}
+use Rattle.spunmarrow.specs.Faces.{badFaces, facesOf}
+use Rattle.spunmarrow.specs.Mesh.{nine, nineRefused, unitLeft, unitCall, greedyLeft, greedyCall}
+
+-- A call of unit meshing.
+module _ (shape min max : List ℕ) (faces : List ℤ) (voxels out : List ℕ) {x : Answer (Unit {0})} (read : x ≡ checked (badFaces faces)) {answer : List ℕ} where
+  -- Faces that are refused leave the output as it was.
+  pub unit-refused : {n p : ℕ} → x ≡ refused n p → answer ≡ nineRefused n p → unitLeft answer out ≡ unitCall shape min max faces voxels out
+  unfolding unitCall
+  unit-refused e is = rw (is, sym read ∙ e)
+
+  -- Otherwise it leaves what unit meshing leaves.
+  pub unit-made : {s least most : Point} {six : List OrientedBlockFace} {r : UnitAnswer} {made : List ℕ} → x ≡ accepted tt
+      → s ≡ pointOf shape → least ≡ pointOf min → most ≡ pointOf max → six ≡ facesOf faces
+      → outcome r made ≡ visibleBlockFaces voxels s least most six out → answer ≡ nine (r .refusal) (r .place) (r .counts) 0
+      → unitLeft answer made ≡ unitCall shape min max faces voxels out
+  unfolding unitCall
+  unit-made e s least most six meshed is = rw (is, sym read ∙ e, ← s, ← least, ← most, ← six, ← meshed)
+
+-- A call of greedy meshing.
+module _ (shape min max : List ℕ) (faces : List ℤ) (voxels visited out : List ℕ) {x : Answer (Unit {0})} (read : x ≡ checked (badFaces faces)) {answer : List ℕ} where
+  -- Faces that are refused leave the buffers as they were.
+  pub greedy-refused : {n p : ℕ} → x ≡ refused n p → answer ≡ nineRefused n p → greedyLeft answer visited out ≡ greedyCall shape min max faces voxels visited out
+  unfolding greedyCall
+  greedy-refused e is = rw (is, sym read ∙ e)
+
+  -- Otherwise it leaves what greedy meshing leaves.
+  pub greedy-made : {s least most : Point} {six : List OrientedBlockFace} {r : GreedyAnswer} {marks made : List ℕ} → x ≡ accepted tt
+      → s ≡ pointOf shape → least ≡ pointOf min → most ≡ pointOf max → six ≡ facesOf faces
+      → greedy.outcome r marks made ≡ greedyQuads voxels s least most six visited out → answer ≡ nine (r .refusal) (r .place) (r .counts) (r .tests)
+      → greedyLeft answer marks made ≡ greedyCall shape min max faces voxels visited out
+  unfolding greedyCall
+  greedy-made e s least most six meshed is = rw (is, sym read ∙ e, ← s, ← least, ← most, ← six, ← meshed)

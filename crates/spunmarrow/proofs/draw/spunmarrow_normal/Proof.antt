@@ -1,0 +1,52 @@
+-- `spunmarrow_normal` meets its contract: a refusal of the face is told, or the normal is written.
+use borrow.Author.Needs.{needs}
+use mathlib.Core.Path.{sym, _∙_, ap}
+use Rattle.geometry.specs.Answers.{normalsMeaning}
+use Rattle.spunmarrow.specs.Draw.{normalCall}
+use Rattle.spunmarrow.proofs.Cases.{face-read}
+use Rattle.spunmarrow.proofs.draw.spunmarrow_normal.Statement.{statement}
+use Rattle.spunmarrow.proofs.draw.spunmarrow_normal.Tie as tie
+
+face-requires : tie.Need-face-requires
+face-requires c κs = search needs
+
+enum-known-number : tie.Need-enum-known-number
+enum-known-number c = search needs
+
+enum-known-face : tie.Need-enum-known-face
+enum-known-face c = search needs
+
+quad-mesh-normals-requires : tie.Need-quad-mesh-normals-requires
+quad-mesh-normals-requires c κs = search needs
+
+enum-known-number-2 : tie.Need-enum-known-number-2
+enum-known-number-2 c = search needs
+
+enum-known-normals : tie.Need-enum-known-normals
+enum-known-normals c = search needs
+
+returns : tie.Need-returns
+unfolding normalCall
+returns c = rw (face-read _ _ (c .before .before .before .before .fits .sign) (c .before .before .before .face .ensures) (c .before .number .given .1))
+
+returns-2 : tie.Need-returns-2
+unfolding normalCall
+returns-2 c = rw (face-read _ _ (c .before .before .before .before .before .before .before .before .fits .sign) (c .before .before .before .before .before .before .before .face .ensures) (c .before .before .before .before .before .face2 .given .1), sym (c .before .before .before .quad-mesh-normals .ensures) ∙ ap normalsMeaning (c .before .number2 .given .1))
+
+returns-3 : tie.Need-returns-3
+unfolding normalCall
+returns-3 c = rw (face-read _ _ (c .before .before .before .before .before .before .before .before .before .before .fits .sign) (c .before .before .before .before .before .before .before .before .before .face .ensures) (c .before .before .before .before .before .before .before .face2 .given .1), sym (c .before .before .before .before .before .quad-mesh-normals .ensures) ∙ ap normalsMeaning (c .before .before .before .normals .given .1))
+
+pub spunmarrow-normal-spec : {M : Type 1} → statement M
+spunmarrow-normal-spec =
+    tie.close
+    (tie.spec
+    face-requires
+    enum-known-number
+    enum-known-face
+    quad-mesh-normals-requires
+    enum-known-number-2
+    enum-known-normals
+    returns
+    returns-2
+    returns-3)

@@ -1,0 +1,69 @@
+-- `spunmarrow_visible_block_faces` meets its contract: the check of the faces decides, or unit meshing.
+use borrow.Author.Needs.{needs}
+use mathlib.Core.Path.{ap}
+use Rattle.voxels.specs.Answers.{entryCheckMeaning}
+use Rattle.spunmarrow.proofs.Left.{unit-refused, unit-made}
+use Rattle.spunmarrow.proofs.mesh.spunmarrow_visible_block_faces.Statement.{statement}
+use Rattle.spunmarrow.proofs.mesh.spunmarrow_visible_block_faces.Tie as tie
+
+check-faces-requires : tie.Need-check-faces-requires
+check-faces-requires c κs = search needs
+
+enum-known-number : tie.Need-enum-known-number
+enum-known-number c = search needs
+
+refuse-requires : tie.Need-refuse-requires
+refuse-requires c κs = search needs
+
+enum-told : tie.Need-enum-told
+enum-told c = search needs
+
+point-requires : tie.Need-point-requires
+point-requires c κs = search needs
+
+point-requires-2 : tie.Need-point-requires-2
+point-requires-2 c κs = search needs
+
+point-requires-3 : tie.Need-point-requires-3
+point-requires-3 c κs = search needs
+
+faces-requires : tie.Need-faces-requires
+faces-requires c κs = search needs
+
+visible-block-faces-requires : tie.Need-visible-block-faces-requires
+visible-block-faces-requires c κs = search needs
+
+write-requires : tie.Need-write-requires
+write-requires c κs = search needs
+
+returns : tie.Need-returns
+returns c =
+    let a = c .before .before .before .before .before .before .before .before .args in
+    unit-refused (a .shape .now) (a .min .now) (a .max .now) (a .faces .now) (a .voxels .now) (a .out .now) (c .before .before .before .before .before .check-faces .ensures) (ap entryCheckMeaning (c .before .before .before .number .given .1)) (c .refuse .ensures)
+
+same-length : tie.Need-same-length
+same-length c = search needs
+
+returns-2 : tie.Need-returns-2
+returns-2 c =
+    let a = c .before .before .before .before .before .before .before .before .before .before .before .before .before .before .before .before .args in
+    unit-made (a .shape .now) (a .min .now) (a .max .now) (a .faces .now) (a .voxels .now) (a .out .now) (c .before .before .before .before .before .before .before .before .before .before .before .before .before .check-faces .ensures) (ap entryCheckMeaning (c .before .before .before .before .before .before .before .before .before .before .before .enum-told .given .1))
+    (c .before .before .before .before .before .before .before .before .before .before .point .ensures) (c .before .before .before .before .before .before .before .before .before .point2 .ensures) (c .before .before .before .before .before .before .before .before .point3 .ensures) (c .before .before .before .before .before .before .before .faces .ensures) (c .before .before .before .before .before .visible-block-faces .ensures) (c .write .ensures)
+
+pub spunmarrow-visible-block-faces-spec : {M : Type 1} → statement M
+spunmarrow-visible-block-faces-spec =
+    tie.close
+    (tie.spec
+    check-faces-requires
+    enum-known-number
+    refuse-requires
+    enum-told
+    point-requires
+    point-requires-2
+    point-requires-3
+    faces-requires
+    visible-block-faces-requires
+    write-requires
+    returns
+    same-length
+    returns-2)

@@ -1,0 +1,139 @@
+/* Spunmarrow: quads from blocks of voxels. The C interface.
+ *
+ * Link with libspunmarrow.a, which `rt staticlib spunmarrow` writes to target/staticlib/, on x86-64 Linux. Plain C99; C++17 takes it as well.
+ *
+ * WHAT THE CALLER GUARANTEES. Each function is proved to do exactly what is written here, for every value of every number that it is handed. A proof can't see
+ * through a pointer, so this is left to the caller:
+ *   - A pointer to an array of fixed length points to that many numbers, aligned as its type asks, and is never NULL.
+ *   - A pointer beside a length points to at least that many numbers. With a length of 0 any pointer will do, NULL as well: nothing is read or written through it.
+ *   - What is read (const) may be written by nobody during the call, and what is written may be read or written by nobody else. No buffer that a call writes overlaps another
+ *     buffer of that call. Buffers that are only read may overlap each other.
+ *   - A bool is true or false: 0 or 1 and no other bits.
+ * Given that, any numbers at all may be handed in. Nothing is read or written but what the buffers have, nothing is allocated, nothing is kept from call to call, and every
+ * call ends. Calls from several threads at once are fine where their buffers are apart.
+ *
+ * REFUSALS. A call that can't do what it is asked says so by a number, SPUNMARROW_REFUSED_.. below. The checks are made in the order that each function lists; the first that
+ * applies is given. A refusal never leaves anything half done; what it leaves of each buffer is written at each function.
+ *
+ * A FACE is two numbers. Its sign is 1 or -1: the side of its normal axis n that it looks to. Its permutation's number says which axes are n, u and v:
+ *     0 Xyz   1 Zxy   2 Yzx   3 Zyx   4 Xzy   5 Yxz     (the letters are n, u, v in that order)
+ * The faces of a cube, each with the permutation that the Rust's block-mesh gives it: +X and -X are 1 and -1 with 0, +Y and -Y with 2, +Z and -Z with 1.
+ *
+ * A QUAD is five numbers: the x, y and z of its least voxel, its width (voxels along u) and its height (voxels along v). Quad limits: x, y and z at most 255, width and
+ * height at least 1, and neither the minimum plus the width on u nor the minimum plus the height on v above 256.
+ *
+ * A VOXEL is 16 bits. The top two are its class: 0 empty, 1 translucent, 2 opaque; 3 is bad. The other fourteen are its merge value: greedy quads span voxels of one
+ * merge value. The voxel (x, y, z) of a block of X by Y by Z has the index x + X*y + X*Y*z.
+ */
+#ifndef SPUNMARROW_H
+#define SPUNMARROW_H
+
+#include <stdbool.h>
+#include <stddef.h>
+#include <stdint.h>
+
+#ifdef __cplusplus
+extern "C" {
+#endif
+
+/* How many numbers each listed quad has in `out`: a greedy quad, and a unit quad (which is one voxel: its x, y and z). */
+#define SPUNMARROW_GREEDY_QUAD_NUMBERS 5
+#define SPUNMARROW_UNIT_QUAD_NUMBERS 3
+
+/* The largest axis of a shape. */
+#define SPUNMARROW_LARGEST_AXIS 256
+
+/* How many faces a mesher takes, and how many numbers they are: for each face its sign and its permutation's number. */
+#define SPUNMARROW_FACES 6
+#define SPUNMARROW_FACE_NUMBERS 12
+
+/* A mesher's answer: nine numbers, and what stands where. */
+#define SPUNMARROW_ANSWER_NUMBERS 9
+#define SPUNMARROW_ANSWER_REFUSAL 0 /* the refusal, or SPUNMARROW_ACCEPTED */
+#define SPUNMARROW_ANSWER_PLACE 1   /* where: see each refusal; 0 where the call is accepted */
+#define SPUNMARROW_ANSWER_COUNTS 2  /* six numbers: how many quads each face's group has; all 0 where the call is refused */
+#define SPUNMARROW_ANSWER_TESTS 8   /* greedy meshing: how many voxels were examined, over all faces; 0 for unit meshing and where the call is refused */
+
+/* The refusal numbers, and what the place is. */
+#define SPUNMARROW_ACCEPTED 0
+#define SPUNMARROW_REFUSED_SHAPE 1          /* an axis of the shape is 0 or above 256; the first such axis (0, 1, 2 for x, y, z) */
+#define SPUNMARROW_REFUSED_FEW_VOXELS 2     /* fewer voxels lent than X*Y*Z; 0 */
+#define SPUNMARROW_REFUSED_MIN_ABOVE_MAX 3  /* min is above max on an axis; the first such axis */
+#define SPUNMARROW_REFUSED_MAX_PAST_SHAPE 4 /* max is at or past the shape on an axis; the first such axis */
+#define SPUNMARROW_REFUSED_MIN_IS_MAX 5     /* min equals max on an axis; the first such axis */
+#define SPUNMARROW_REFUSED_FACE_SIGN 6      /* a face's sign is neither 1 nor -1; the first such face, 0 to 5 */
+#define SPUNMARROW_REFUSED_FEW_VISITED 7    /* greedy meshing: fewer visited bytes lent than X*Y*Z; 0 */
+#define SPUNMARROW_REFUSED_BAD_VOXEL 8      /* a voxel of class 3 inside the box; its index, the lowest of them */
+#define SPUNMARROW_REFUSED_MANY_QUADS 9     /* more quads than the output holds; how many it holds */
+#define SPUNMARROW_REFUSED_QUAD_LIMITS 12   /* a quad outside the quad limits */
+#define SPUNMARROW_REFUSED_FIRST_INDEX 13   /* a first index above 4,294,967,292 */
+#define SPUNMARROW_REFUSED_VOXEL_SIZE 14    /* a voxel size that is NaN or infinite */
+#define SPUNMARROW_REFUSED_NUMBER 17        /* a permutation's number outside 0 to 5, a corner's outside 0 to 3, or an axis' outside 0 to 2; of a mesher the first such face, 0 to 5 */
+
+/* ---- meshing ----
+ *
+ * Both meshers look at the box from min to max, max included, of a block of the shape X by Y by Z, and mesh its interior: one voxel in from each side of the box. (So a block
+ * is lent with a border of its neighbours.) An axis on which the box spans two voxels has no interior: the call is accepted and lists nothing.
+ *
+ * A voxel's face is visible when the voxel isn't empty and the neighbour that the face looks to is empty, or is translucent while the voxel is opaque.
+ *
+ * `out` gets six groups of quads, a group for each face in the order given, end to end from the start. answer[SPUNMARROW_ANSWER_COUNTS + k] is how many quads group k has. `out`
+ * holds out_len / SPUNMARROW_.._QUAD_NUMBERS quads, rounded down; the rest of its length is never written.
+ *
+ * All nine numbers of `answer` are written, whatever happens; what they held before is not read.
+ */
+
+/* Greedy meshing: the visible faces as rectangles, five numbers each.
+ *
+ * Refuses by 17, then 1, 2, 3, 4, 5, 6, 7, 8, then 9.
+ *   After 17 and 1 to 8  `out` and `visited` are as they were.
+ *   After 9              `out` holds the first quads of the listing, as many as it holds, and nothing past them has changed; the first X*Y*Z bytes of `visited` are 0 and the
+ *                        others as they were.
+ *   Accepted             nothing of `out` past the last quad has changed; `visited` as after 9.
+ * `visited` is scratch space: what it holds before the call doesn't matter, and X*Y*Z bytes of it are used.
+ */
+void spunmarrow_greedy_quads(const uint32_t shape[3], const uint32_t min[3], const uint32_t max[3], const int32_t faces[12],
+                             const uint16_t *voxels, size_t voxels_len, uint8_t *visited, size_t visited_len,
+                             uint32_t *out, size_t out_len, uint64_t answer[9]);
+
+/* Unit meshing: every visible face by itself, three numbers each: the voxel's x, y and z. A group is in scan order, x fastest, then y, then z.
+ *
+ * Refuses by 17, then 1, 2, 3, 4, 5, 6, 8, then 9.
+ *   After 17, 1 to 6, 8  `out` is as it was.
+ *   After 9              `out` holds the first quads of the listing, as many as it holds, and nothing past them has changed.
+ *   Accepted             nothing of `out` past the last quad has changed.
+ */
+void spunmarrow_visible_block_faces(const uint32_t shape[3], const uint32_t min[3], const uint32_t max[3], const int32_t faces[12],
+                                    const uint16_t *voxels, size_t voxels_len, uint32_t *out, size_t out_len, uint64_t answer[9]);
+
+/* ---- drawing ----
+ *
+ * Each call answers the refusal number, and `out` is then as it was; or SPUNMARROW_ACCEPTED, and all of `out` is written.
+ *
+ * The corners of a quad have the numbers 0 to 3: the base, +u width, +v height, both. The base is the quad's minimum, one step up along n where the sign is 1.
+ */
+
+/* Where one corner of a quad is drawn: x, y and z. Each is one product of voxel_size and the corner's coordinate, rounded once as IEEE 754 says; it may be infinite and is
+ * never NaN. Refuses by 17 (permutation, corner), then 6, 12, 14. */
+uint32_t spunmarrow_corner(int32_t sign, uint32_t permutation, const uint32_t quad[5], uint32_t corner, float voxel_size, float out[3]);
+
+/* The four corners of a quad in voxels: x, y and z of corner 0, then of 1, 2 and 3. Refuses by 17, then 6, 12. */
+uint32_t spunmarrow_corners(int32_t sign, uint32_t permutation, const uint32_t quad[5], uint32_t out[12]);
+
+/* The normal of a face: one of x, y and z is 1 or -1, and the others are plus zero. Refuses by 17, then 6. */
+uint32_t spunmarrow_normal(int32_t sign, uint32_t permutation, float out[3]);
+
+/* The vertex numbers of a quad's two triangles, where corner k has the number start + k; the next quad's first vertex is then start + 4. In right-handed axes both triangles
+ * run counterclockwise as seen from the side that the face looks to. Refuses by 17, then 6, 13. */
+uint32_t spunmarrow_indices(int32_t sign, uint32_t permutation, uint32_t start, uint32_t out[6]);
+
+/* The texture pairs of a quad's four corners, u and v of corner 0, then of 1, 2 and 3, for a texture that repeats at each voxel: (0,0), (w,0), (0,h), (w,h). flip_v swaps 0
+ * and h. 0 and w are swapped on a face of sign -1 whose normal axis isn't u_flip_axis (0, 1, 2 for x, y, z), and on one of sign 1 whose normal axis is. Refuses by 17
+ * (permutation, axis), then 6, 12. */
+uint32_t spunmarrow_tex_coords(int32_t sign, uint32_t permutation, uint32_t u_flip_axis, bool flip_v, const uint32_t quad[5], float out[8]);
+
+#ifdef __cplusplus
+}
+#endif
+
+#endif
