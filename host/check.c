@@ -1,4 +1,4 @@
-/* Calls every function of the archive from C: document 01's examples and each bad number at the boundary, with what each buffer must hold afterwards. Prints what differs;
+/* Calls every function of the archive from C: E1, E10 to E12, E14 and E15 of document 01 and each bad number at the boundary, with what a buffer must hold afterwards. Prints what differs;
  * its last line is 'N checks, M failed', and its exit status 0 where M is 0.
  */
 #include <inttypes.h>

@@ -103,17 +103,19 @@ static void call(const struct job *job, const struct buffers *b, uint64_t answer
 }
 
 /* Meshes the voxels. Nobody knows beforehand how many quads there are: where they don't fit, the output is made twice as large and the block is meshed again. */
-static int mesh(const struct job *job, struct buffers *b, uint64_t answer[SPUNMARROW_ANSWER_NUMBERS])
+static void mesh(const struct job *job, struct buffers *b, uint64_t answer[SPUNMARROW_ANSWER_NUMBERS])
 {
     for (;;) {
         uint32_t *larger;
 
         call(job, b, answer);
         if (answer[SPUNMARROW_ANSWER_REFUSAL] != SPUNMARROW_REFUSED_MANY_QUADS)
-            return 1;
+            return;
         larger = realloc(b->out, b->capacity * 2 * numbers_of_a_quad(job) * sizeof *b->out);
-        if (larger == NULL)
-            return 1; /* the refusal stands */
+        if (larger == NULL) {
+            fprintf(stderr, "mesh_file: there is no memory for more than %lu quads\n", (unsigned long)b->capacity);
+            return; /* the refusal stands */
+        }
         b->out = larger;
         b->capacity *= 2;
     }
@@ -219,7 +221,7 @@ int main(int argc, char **argv)
         if (i >= argc || !number(argv[i], &job.shape[k]))
             return usage("the block's shape is three numbers");
         if (job.shape[k] < 1 || job.shape[k] > SPUNMARROW_LARGEST_AXIS)
-            return usage("an axis of the block is 1 to 256 long"); /* refusal 1, said before any memory is asked for */
+            return usage("refused by 1: an axis of the block is 0 or above 256"); /* said before any memory is asked for */
         if (!boxed)
             job.max[k] = job.shape[k] - 1;
     }
@@ -258,6 +260,10 @@ int main(int argc, char **argv)
             continue;
         }
         print(file, &job, &b, answer);
+    }
+    if (fflush(stdout) != 0 || ferror(stdout)) {
+        fprintf(stderr, "mesh_file: what was meshed could not be written\n");
+        failed++;
     }
     free(b.bytes);
     free(b.voxels);

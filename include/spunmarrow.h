@@ -2,22 +2,23 @@
  *
  * Link with libspunmarrow.a, which `rt staticlib spunmarrow` writes to target/staticlib/, on x86-64 Linux. Plain C99; C++17 takes it as well.
  *
- * WHAT THE CALLER GUARANTEES. Each function is proved to do exactly what is written here, for every value of every number that it is handed. A proof can't see
+ * WHAT THE CALLER GUARANTEES. What each function answers and leaves in each buffer is proved, for every value of every number that it is handed. A proof can't see
  * through a pointer, so this is left to the caller:
  *   - A pointer to an array of fixed length points to that many numbers, aligned as its type asks, and is never NULL.
- *   - A pointer beside a length points to at least that many numbers. With a length of 0 any pointer will do, NULL as well: nothing is read or written through it.
+ *   - A pointer beside a length points to at least that many numbers, aligned as its type asks. With a length of 0 any pointer will do, NULL as well: nothing is read or written through it.
  *   - What is read (const) may be written by nobody during the call, and what is written may be read or written by nobody else. No buffer that a call writes overlaps another
  *     buffer of that call. Buffers that are only read may overlap each other.
  *   - A bool is true or false: 0 or 1 and no other bits.
+ *   - The processor's floating-point mode is the default: round to nearest, subnormals kept (a program built with -ffast-math may have changed it). spunmarrow_corner rests on it.
  * Given that, any numbers at all may be handed in. Nothing is read or written but what the buffers have, nothing is allocated, nothing is kept from call to call, and every
  * call ends. Calls from several threads at once are fine where their buffers are apart.
  *
  * REFUSALS. A call that can't do what it is asked says so by a number, SPUNMARROW_REFUSED_.. below. The checks are made in the order that each function lists; the first that
- * applies is given. A refusal never leaves anything half done; what it leaves of each buffer is written at each function.
+ * applies is given. What a refusal leaves of each buffer is written at each function.
  *
  * A FACE is two numbers. Its sign is 1 or -1: the side of its normal axis n that it looks to. Its permutation's number says which axes are n, u and v:
  *     0 Xyz   1 Zxy   2 Yzx   3 Zyx   4 Xzy   5 Yxz     (the letters are n, u, v in that order)
- * The faces of a cube, each with the permutation that the Rust's block-mesh gives it: +X and -X are 1 and -1 with 0, +Y and -Y with 2, +Z and -Z with 1.
+ * The faces of a cube, each with the permutation of the Rust's `OrientedBlockFace::canonical`: +X and -X are 1 and -1 with 0, +Y and -Y with 2, +Z and -Z with 1.
  *
  * A QUAD is five numbers: the x, y and z of its least voxel, its width (voxels along u) and its height (voxels along v). Quad limits: x, y and z at most 255, width and
  * height at least 1, and neither the minimum plus the width on u nor the minimum plus the height on v above 256.
@@ -52,7 +53,7 @@ extern "C" {
 #define SPUNMARROW_ANSWER_REFUSAL 0 /* the refusal, or SPUNMARROW_ACCEPTED */
 #define SPUNMARROW_ANSWER_PLACE 1   /* where: see each refusal; 0 where the call is accepted */
 #define SPUNMARROW_ANSWER_COUNTS 2  /* six numbers: how many quads each face's group has; all 0 where the call is refused */
-#define SPUNMARROW_ANSWER_TESTS 8   /* greedy meshing: how many voxels were examined, over all faces; 0 for unit meshing and where the call is refused */
+#define SPUNMARROW_ANSWER_TESTS 8   /* greedy meshing: the voxel tests, over all faces; 0 for unit meshing and where the call is refused */
 
 /* The refusal numbers, and what the place is. */
 #define SPUNMARROW_ACCEPTED 0
@@ -85,6 +86,12 @@ extern "C" {
 
 /* Greedy meshing: the visible faces as rectangles, five numbers each.
  *
+ * Every visible face in the interior lies in exactly one quad of its face's group, and no other voxel lies in any. The slices go from low n to high n, and in a slice the voxels are tested in
+ * scan order, x fastest, then y, then z: a voxel passes if it isn't empty, no quad of the group has it yet, and its face is visible. From one that passes a quad grows: along +u while the
+ * voxels pass and have its merge value, then along +v by whole rows of that width, to the edge of the interior. The quads of a group stand in the order in which they are found. Class is not compared:
+ * an opaque and a translucent voxel of one merge value may share a quad. A test is one voxel looked at, the failing one of a row included; a voxel may be tested more than once.
+ * Six times the interior voxels are always room enough for the quads.
+ *
  * Refuses by 17, then 1, 2, 3, 4, 5, 6, 7, 8, then 9.
  *   After 17 and 1 to 8  `out` and `visited` are as they were.
  *   After 9              `out` holds the first quads of the listing, as many as it holds, and nothing past them has changed; the first X*Y*Z bytes of `visited` are 0 and the
@@ -96,7 +103,8 @@ void spunmarrow_greedy_quads(const uint32_t shape[3], const uint32_t min[3], con
                              const uint16_t *voxels, size_t voxels_len, uint8_t *visited, size_t visited_len,
                              uint32_t *out, size_t out_len, uint64_t answer[9]);
 
-/* Unit meshing: every visible face by itself, three numbers each: the voxel's x, y and z. A group is in scan order, x fastest, then y, then z.
+/* Unit meshing: every visible face by itself, three numbers each: the voxel's x, y and z. A group is in scan order, x fastest, then y, then z. To draw one, width and height are 1.
+ * Six times the interior voxels are always room enough.
  *
  * Refuses by 17, then 1, 2, 3, 4, 5, 6, 8, then 9.
  *   After 17, 1 to 6, 8  `out` is as it was.
