@@ -9,6 +9,7 @@
 // each kind of call; and last how many calls were replayed and how many differences came out. A record
 // that is malformed is a difference.
 mod draw;
+mod fault;
 mod mesh;
 mod space;
 mod tally;
@@ -16,133 +17,122 @@ mod text;
 mod value;
 
 use libc::STDIN_FILENO;
+use text::Line;
 
 // Where the reading stands.
 struct Place {
     // Where the next line starts.
     at: usize,
-    // Whether the line that ends the list has been read, or nothing more can be.
+    // Whether the line that ends the list has been read.
     done: bool,
 }
 
-// Replays the call of a record of a kind.
-fn call(tally: &mut [u64; 44], numbers: &[u32; 512]) {
-    let kind = numbers[1];
-    match kind {
-        1 => mesh::replay(tally, numbers),
-        2 => mesh::replay(tally, numbers),
-        3 => draw::position(tally, numbers),
-        4 => draw::corners(tally, numbers),
-        5 => draw::normal(tally, numbers),
-        6 => draw::indices(tally, numbers),
-        7 => draw::tex_coords(tally, numbers),
-        8 => draw::new(tally, numbers),
-        9 => draw::from_vector(tally, numbers),
-        _ => draw::canonical(tally, numbers),
+// The fault of a record that has so many numbers, its length among them, or 0.
+fn fault_of(numbers: &[u32; 512], count: usize) -> u32 {
+    if count < 4 {
+        return fault::NOT_ITS_LENGTH;
     }
+    if value::size_at(numbers, 0) != count - 1 {
+        return fault::NOT_ITS_LENGTH;
+    }
+    if numbers[1] == 0 {
+        return fault::NO_KIND;
+    }
+    if numbers[1] > 10 {
+        return fault::NO_KIND;
+    }
+    0
 }
 
 // Replays a record that has so many numbers, its length among them.
 fn record(tally: &mut [u64; 44], numbers: &[u32; 512], count: usize) {
-    if count < 4 {
-        tally::malformed(tally, b"it is too short for any call\n");
+    let wrong = fault_of(numbers, count);
+    if wrong != 0 {
+        tally::malformed(tally, wrong);
         return;
     }
-    if value::size_at(numbers, 0) != count - 1 {
-        tally::malformed(tally, b"it has not as many numbers as it says\n");
+    if numbers[1] < 3 {
+        mesh::replay(tally, numbers);
         return;
     }
-    if numbers[1] == 0 {
-        tally::malformed(tally, b"there is no call of that kind\n");
-        return;
-    }
-    if numbers[1] > 10 {
-        tally::malformed(tally, b"there is no call of that kind\n");
-        return;
-    }
-    call(tally, numbers);
+    draw::replay(tally, numbers);
 }
 
-// Says what is wrong with a line.
-fn wrong_line(tally: &mut [u64; 44], what: u32) {
-    match what {
-        text::TOO_LONG => tally::malformed(tally, b"it has more than 512 numbers\n"),
-        text::CUT => tally::malformed(tally, b"the list ends in it\n"),
-        _ => tally::malformed(
-            tally,
-            b"it is not all numbers from 0 to 4294967295 with one space between\n",
-        ),
-    }
-}
-
-// Reads a line, and replays its call.
-fn line(tally: &mut [u64; 44], list: &[u8], at: usize) -> Place {
-    if text::byte(list, at) == b'#' {
-        return Place {
-            at: text::next_line(list, at),
-            done: false,
-        };
-    }
-    let mut numbers = [0u32; 512];
-    let read = text::read_line(list, at, &mut numbers);
+// Replays what a line has, or says what is wrong with it.
+fn replay_line(tally: &mut [u64; 44], numbers: &[u32; 512], read: Line) {
     tally::next_record(tally);
     if read.wrong != 0 {
-        wrong_line(tally, read.wrong);
-        return Place {
-            at: text::next_line(list, at),
-            done: false,
-        };
+        tally::malformed(tally, read.wrong);
+        return;
     }
-    if read.count == 1 {
-        if numbers[0] == 0 {
-            if read.next < list.len() {
-                tally::wrong_list(tally, b"the list goes on after the line 0, which ends it\n");
-            }
+    record(tally, numbers, read.count);
+}
+
+// Whether a line ends the list.
+fn is_end(numbers: &[u32; 512], read: Line) -> bool {
+    if read.wrong != 0 {
+        return false;
+    }
+    if read.count != 1 {
+        return false;
+    }
+    numbers[0] == 0
+}
+
+// Reads the line that starts at a place, and replays it.
+fn line(tally: &mut [u64; 44], list: &[u8], at: usize) -> Place {
+    let next = text::next_line(list, at);
+    if text::byte(list, at) != b'#' {
+        let mut numbers = [0u32; 512];
+        let read = text::read_line(list, at, &mut numbers);
+        if is_end(&numbers, read) {
             return Place {
-                at: read.next,
+                at: next,
                 done: true,
             };
         }
+        replay_line(tally, &numbers, read);
     }
-    record(tally, &numbers, read.count);
     Place {
-        at: read.next,
+        at: next,
         done: false,
     }
 }
 
-// Reads all lines.
-fn lines(tally: &mut [u64; 44], list: &[u8]) {
-    let mut place = Place { at: 0, done: false };
+// Reads all lines, and answers the fault of the list, or 0.
+fn lines(tally: &mut [u64; 44], list: &[u8]) -> u32 {
+    let mut at: usize = 0;
     let mut k: usize = 0;
     while k < list.len() {
-        place = line(tally, list, place.at);
+        let place = line(tally, list, at);
+        at = place.at;
         if place.done {
-            return;
+            return if at < list.len() { fault::GOES_ON } else { 0 };
         }
-        if place.at >= list.len() {
-            tally::wrong_list(tally, b"the list ends before the line 0, which ends it\n");
-            return;
+        if at >= list.len() {
+            return fault::NO_END;
         }
         k += 1;
     }
-    tally::wrong_list(tally, b"the list is empty\n");
+    fault::NO_END
 }
 
-// Reads a list from standard input, and replays it.
-fn replay(tally: &mut [u64; 44], text: &mut [u8]) {
+// Reads a list from standard input, replays it, and answers its fault, or 0.
+fn replay(tally: &mut [u64; 44], text: &mut [u8]) -> u32 {
     let got = io::read_full(STDIN_FILENO, text);
     if got == text.len() {
-        tally::wrong_list(tally, b"the list is longer than 262143 bytes\n");
-        return;
+        return fault::LONG_LIST;
     }
-    lines(tally, &text[..got]);
+    lines(tally, &text[..got])
 }
 
 fn main() {
     let mut counts = [0u64; 44];
     let mut room = space::text();
     let text: &mut [u8] = &mut room;
-    replay(&mut counts, text);
+    let wrong = replay(&mut counts, text);
+    if wrong != 0 {
+        tally::wrong_list(&mut counts, wrong);
+    }
     tally::end(&counts);
 }

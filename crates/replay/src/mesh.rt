@@ -1,9 +1,9 @@
 // The meshers' calls, kinds 1 and 2. A record has its length, the kind and the source at 0 to 2, shape,
 // minimum and maximum from 3 on, twelve numbers of faces from 12 on, the number of voxels at 24, the
 // number of runs at 25, and two numbers for each run; then what `Rest` has.
+use crate::fault;
 use crate::space;
 use crate::tally;
-use crate::tally::BEFORE;
 use crate::value;
 use spunmarrow::mesh;
 
@@ -11,7 +11,7 @@ use spunmarrow::mesh;
 const MOST: usize = 4096;
 
 // The most runs that a record has room for.
-const MOST_RUNS: u32 = 240;
+const MOST_RUNS: usize = 240;
 
 // What a record has after its voxels.
 struct Rest {
@@ -48,51 +48,33 @@ fn rest_of(numbers: &[u32; 512]) -> Rest {
     }
 }
 
-// Whether a record has as many numbers as it says, and no buffer is too long for this program. Says
-// what is wrong.
-fn fits(tally: &mut [u64; 44], numbers: &[u32; 512], r: Rest) -> bool {
-    if numbers[25] > MOST_RUNS {
-        tally::malformed(
-            tally,
-            b"it has more runs of voxels than a record has room for\n",
-        );
-        return false;
+// The fault of a record, or 0.
+fn fault_of(numbers: &[u32; 512], r: Rest) -> u32 {
+    if value::size_at(numbers, 25) > MOST_RUNS {
+        return fault::NOT_A_CALL;
     }
     if value::size_at(numbers, 0) != add(r.first, r.written) {
-        tally::malformed(
-            tally,
-            b"it has not as many numbers as such a call and its answer\n",
-        );
-        return false;
+        return fault::NOT_A_CALL;
     }
     if !value::right_source(numbers[2], value::at(numbers, r.answer)) {
-        tally::malformed(
-            tally,
-            b"its answer cannot be from the source that it names\n",
-        );
-        return false;
+        return fault::NO_SOURCE;
     }
     if r.voxels > MOST {
-        tally::malformed(tally, b"it has more than 4096 voxels\n");
-        return false;
+        return fault::LARGE;
     }
     if r.visited > MOST {
-        tally::malformed(tally, b"it has more than 4096 visited bytes\n");
-        return false;
+        return fault::LARGE;
     }
     if r.out > MOST {
-        tally::malformed(tally, b"it has more than 4096 numbers of output\n");
-        return false;
+        return fault::LARGE;
     }
     if r.written > r.out {
-        tally::malformed(tally, b"its answer is longer than its output\n");
-        return false;
+        return fault::SMALL;
     }
     if r.cleared > r.visited {
-        tally::malformed(tally, b"its answer clears more visited bytes than it has\n");
-        return false;
+        return fault::SMALL;
     }
-    true
+    0
 }
 
 // What a run is that does not fit: no place of a voxel.
@@ -150,34 +132,6 @@ fn compare_answer(tally: &mut [u64; 44], numbers: &[u32; 512], from: usize, answ
             answer[k],
         );
         k += 1;
-    }
-}
-
-// Compares a whole output, and what lies after it: the numbers that are written, and what was there
-// before.
-fn compare_output(
-    tally: &mut [u64; 44],
-    numbers: &[u32; 512],
-    first: usize,
-    written: usize,
-    out: &[u32],
-) {
-    let mut i: usize = 0;
-    while i < out.len() {
-        let expected = if i < written {
-            value::at(numbers, add(first, i))
-        } else {
-            BEFORE
-        };
-        tally::compare(
-            tally,
-            numbers[1],
-            b"output number ",
-            i,
-            value::wide(expected),
-            value::wide(out[i]),
-        );
-        i += 1;
     }
 }
 
@@ -317,20 +271,22 @@ fn meshed(tally: &mut [u64; 44], numbers: &[u32; 512], r: Rest, voxels: &[u16]) 
         lend_unit(numbers, r, voxels, out, &mut answer);
     }
     compare_answer(tally, numbers, r.answer, &answer);
-    compare_output(tally, numbers, r.first, r.written, out);
+    tally::compare_output(tally, numbers, r.first, r.written, out);
     compare_visited(tally, numbers[1], r.cleared, visited);
 }
 
 // Replays a call of a mesher.
 pub fn replay(tally: &mut [u64; 44], numbers: &[u32; 512]) {
     let r = rest_of(numbers);
-    if !fits(tally, numbers, r) {
+    let wrong = fault_of(numbers, r);
+    if wrong != 0 {
+        tally::malformed(tally, wrong);
         return;
     }
     let mut room = space::voxels();
     let voxels: &mut [u16] = &mut room;
     if runs(numbers, voxels) != r.voxels {
-        tally::malformed(tally, b"its runs have not as many voxels as it says\n");
+        tally::malformed(tally, fault::RUNS);
         return;
     }
     tally::replayed(tally, numbers[1], numbers[2]);

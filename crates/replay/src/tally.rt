@@ -1,39 +1,46 @@
 // What is counted and printed. The tally has four counts a kind of call: the calls, the answers that
 // are the Rust's, those that are the second reading's, and the differences. Kind 0 is the list
 // itself: its records, and those that are malformed.
+use crate::fault;
+use crate::fault::text;
+use crate::value;
 use libc::STDOUT_FILENO;
 
 // What every word of an output is before a call.
 pub const BEFORE: u32 = 2779096485;
 
-pub fn text(s: &[u8]) {
-    io::write_all(STDOUT_FILENO, s);
-}
-
-pub fn number(n: u64) {
-    io::print_decimal(STDOUT_FILENO, n);
-}
-
 // A number and what stands after it.
 fn put(n: u64, after: &[u8]) {
-    number(n);
+    io::print_decimal(STDOUT_FILENO, n);
     text(after);
 }
 
 // The name of a kind of call.
 fn name(kind: u32) {
+    if kind < 6 {
+        first_name(kind);
+        return;
+    }
+    second_name(kind);
+}
+
+fn first_name(kind: u32) {
     match kind {
         1 => text(b"greedy_quads"),
         2 => text(b"visible_block_faces"),
         3 => text(b"quad_mesh_position"),
         4 => text(b"quad_corners"),
-        5 => text(b"quad_mesh_normals"),
+        _ => text(b"quad_mesh_normals"),
+    }
+}
+
+fn second_name(kind: u32) {
+    match kind {
         6 => text(b"quad_mesh_indices"),
         7 => text(b"tex_coords"),
         8 => text(b"SignedAxis::new"),
         9 => text(b"SignedAxis::from_vector"),
-        10 => text(b"canonical"),
-        _ => text(b"the list"),
+        _ => text(b"canonical"),
     }
 }
 
@@ -64,15 +71,15 @@ pub fn next_record(tally: &mut [u64; 44]) {
 }
 
 // Says what is wrong with the list, which is a difference.
-pub fn wrong_list(tally: &mut [u64; 44], what: &[u8]) {
+pub fn wrong_list(tally: &mut [u64; 44], what: u32) {
     add(tally, 0, 3);
-    text(what);
+    fault::sentence(what);
 }
 
 // The same, of the record that was read last.
-pub fn malformed(tally: &mut [u64; 44], what: &[u8]) {
+pub fn malformed(tally: &mut [u64; 44], what: u32) {
     text(b"record ");
-    put(count(tally, 0, 0), b" of the list: ");
+    put(count(tally, 0, 0), b" of the list ");
     wrong_list(tally, what);
 }
 
@@ -100,6 +107,31 @@ pub fn compare(
 ) {
     if expected != came {
         differs(tally, kind, what, index, expected, came);
+    }
+}
+
+// Compares a whole output: its first numbers with those of a record from index `first` on, and the
+// others with what was there before.
+pub fn compare_output(
+    tally: &mut [u64; 44],
+    numbers: &[u32; 512],
+    first: usize,
+    written: usize,
+    out: &[u32],
+) {
+    let kind = value::at(numbers, 1);
+    let mut i: usize = 0;
+    while i < out.len() {
+        let expected = value::output_at(numbers, first, written, i);
+        compare(
+            tally,
+            kind,
+            b"output number ",
+            i,
+            expected,
+            value::wide(out[i]),
+        );
+        i += 1;
     }
 }
 

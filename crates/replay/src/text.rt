@@ -1,4 +1,5 @@
 // The text of a list: a line is a record of numbers with a space between, or a comment.
+use crate::fault;
 
 // A line as it was read.
 pub struct Line {
@@ -6,7 +7,7 @@ pub struct Line {
     pub count: usize,
     // Where the next line starts.
     pub next: usize,
-    // 0, or what is wrong with it.
+    // 0, or its fault.
     pub wrong: u32,
 }
 
@@ -17,14 +18,6 @@ struct Number {
     // Where the text goes on after it.
     next: usize,
 }
-
-// What is wrong with a line: there is something that is neither a number of 32 bits nor a space
-// between two, it has more numbers than a record may have, or the text ends in it.
-pub const NO_NUMBER: u32 = 1;
-
-pub const TOO_LONG: u32 = 2;
-
-pub const CUT: u32 = 3;
 
 // One past the largest number.
 const TOO_LARGE: u64 = 4294967296;
@@ -92,15 +85,15 @@ fn read_number(text: &[u8], from: usize) -> Number {
     }
 }
 
-// What a byte is after a number: 0 for a line's end, and else what is wrong.
+// What the byte after a number is: 0 for a line's end, and else its fault.
 fn after_number(text: &[u8], at: usize) -> u32 {
     if at >= text.len() {
-        return CUT;
+        return fault::CUT;
     }
     if text[at] == b'\n' {
         return 0;
     }
-    NO_NUMBER
+    fault::NO_NUMBER
 }
 
 // Reads the numbers of a line.
@@ -114,7 +107,7 @@ pub fn read_line(text: &[u8], from: usize, numbers: &mut [u32; 512]) -> Line {
             return Line {
                 count: k,
                 next: next,
-                wrong: NO_NUMBER,
+                wrong: fault::NO_NUMBER,
             };
         }
         numbers[k] = value as u32;
@@ -132,6 +125,6 @@ pub fn read_line(text: &[u8], from: usize, numbers: &mut [u32; 512]) -> Line {
     Line {
         count: k,
         next: next,
-        wrong: TOO_LONG,
+        wrong: fault::TOO_LONG,
     }
 }

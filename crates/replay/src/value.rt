@@ -58,9 +58,13 @@ pub fn bits(x: f32) -> u32 {
     4294967295
 }
 
-// A word of an f32 output before a call.
-pub fn before() -> f32 {
-    float(BEFORE)
+// What an output has to hold at index `i`: the first `written` numbers stand in the record from
+// index `first` on, and the others are as they were before.
+pub fn output_at(numbers: &[u32; 512], first: usize, written: usize, i: usize) -> u64 {
+    if i < written {
+        return wide(at(numbers, std::num::wrapping_add_usize(first, i)));
+    }
+    wide(BEFORE)
 }
 
 // The same number with room for more.

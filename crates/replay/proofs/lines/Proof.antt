@@ -7,10 +7,10 @@ use Rattle.replay.proofs.lines.Statement.{statement}
 use Rattle.replay.proofs.lines.Tie as tie
 
 abbrev Inv-loop : tie.InvT-loop
-Inv-loop tally₀ list place₀ k₀ t5 t6 tally place k = k ≤ length list
+Inv-loop tally₀ list at₀ k₀ tally at k = k ≤ length list
 
 abbrev μ-loop : tie.MeasureT-loop
-μ-loop tally₀ list place₀ k₀ t5 t6 tally place k = length list - k
+μ-loop tally₀ list at₀ k₀ tally at k = length list - k
 
 loop-holds : tie.Need-loop-holds Inv-loop μ-loop
 loop-holds c = search needs
@@ -21,14 +21,11 @@ line-requires c κs = search needs
 returns : tie.Need-returns Inv-loop μ-loop
 returns c = search needs
 
-slice-aggregate-wrong-list : tie.Need-slice-aggregate-wrong-list Inv-loop μ-loop
-slice-aggregate-wrong-list c = search needs
-
-wrong-list-requires : tie.Need-wrong-list-requires Inv-loop μ-loop
-wrong-list-requires c κs = search needs
-
 returns-2 : tie.Need-returns-2 Inv-loop μ-loop
 returns-2 c = search needs
+
+returns-3 : tie.Need-returns-3 Inv-loop μ-loop
+returns-3 c = search needs
 
 add-k : tie.Need-add-k Inv-loop μ-loop
 add-k c = search needs
@@ -39,14 +36,8 @@ loop-less c = omega arith
 loop-again : tie.Need-loop-again Inv-loop μ-loop
 loop-again c = search needs
 
-slice-aggregate-wrong-list-2 : tie.Need-slice-aggregate-wrong-list-2 Inv-loop μ-loop
-slice-aggregate-wrong-list-2 c = search needs
-
-wrong-list-requires-2 : tie.Need-wrong-list-requires-2 Inv-loop μ-loop
-wrong-list-requires-2 c κs = search needs
-
-returns-3 : tie.Need-returns-3 Inv-loop μ-loop
-returns-3 c = search needs
+returns-4 : tie.Need-returns-4 Inv-loop μ-loop
+returns-4 c = search needs
 
 pub lines-spec : {M : Type 1} → statement M
 lines-spec =
@@ -57,12 +48,9 @@ lines-spec =
     loop-holds
     line-requires
     returns
-    slice-aggregate-wrong-list
-    wrong-list-requires
     returns-2
+    returns-3
     add-k
     loop-less
     loop-again
-    slice-aggregate-wrong-list-2
-    wrong-list-requires-2
-    returns-3)
+    returns-4)

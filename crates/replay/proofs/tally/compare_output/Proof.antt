@@ -1,19 +1,16 @@
--- `draw::compare_output` is safe, and ends: the loop counts the numbers.
+-- `tally::compare_output` is safe, and ends: the loop counts the numbers.
 use borrow.Author.Needs.{needs}
 use native.Mathlib.Omega.{arith}
 use Prim.Native.Nat.{_≤_, _-_}
 use lib.ListN.{length}
-use Rattle.replay.proofs.draw.compare_output.Statement.{statement}
-use Rattle.replay.proofs.draw.compare_output.Tie as tie
+use Rattle.replay.proofs.tally.compare_output.Statement.{statement}
+use Rattle.replay.proofs.tally.compare_output.Tie as tie
 
 abbrev Inv-loop : tie.InvT-loop
-Inv-loop tally₀ numbers from came refusal i₀ t8 tally i = i ≤ length came
+Inv-loop tally₀ numbers first written out kind i₀ t9 tally i = i ≤ length out
 
 abbrev μ-loop : tie.MeasureT-loop
-μ-loop tally₀ numbers from came refusal i₀ t8 tally i = length came - i
-
-wrapping-sub-usize-requires : tie.Need-wrapping-sub-usize-requires Inv-loop μ-loop
-wrapping-sub-usize-requires c κs = search needs
+μ-loop tally₀ numbers first written out kind i₀ t9 tally i = length out - i
 
 at-requires : tie.Need-at-requires Inv-loop μ-loop
 at-requires c κs = search needs
@@ -21,20 +18,11 @@ at-requires c κs = search needs
 loop-holds : tie.Need-loop-holds Inv-loop μ-loop
 loop-holds c = search needs
 
-wrapping-add-usize-requires : tie.Need-wrapping-add-usize-requires Inv-loop μ-loop
-wrapping-add-usize-requires c κs = search needs
-
-expected-requires : tie.Need-expected-requires Inv-loop μ-loop
-expected-requires c κs = search needs
-
-element-copy-out-compare : tie.Need-element-copy-out-compare Inv-loop μ-loop
-element-copy-out-compare c = search needs
+output-at-requires : tie.Need-output-at-requires Inv-loop μ-loop
+output-at-requires c κs = search needs
 
 slice-aggregate-compare : tie.Need-slice-aggregate-compare Inv-loop μ-loop
 slice-aggregate-compare c = search needs
-
-wide-requires : tie.Need-wide-requires Inv-loop μ-loop
-wide-requires c κs = search needs
 
 mul-wide : tie.Need-mul-wide Inv-loop μ-loop
 mul-wide c = search needs
@@ -42,8 +30,8 @@ mul-wide c = search needs
 shared-slice-read-wide : tie.Need-shared-slice-read-wide Inv-loop μ-loop
 shared-slice-read-wide c = search needs
 
-wide-requires-2 : tie.Need-wide-requires-2 Inv-loop μ-loop
-wide-requires-2 c κs = search needs
+wide-requires : tie.Need-wide-requires Inv-loop μ-loop
+wide-requires c κs = search needs
 
 compare-requires : tie.Need-compare-requires Inv-loop μ-loop
 compare-requires c κs = search needs
@@ -66,17 +54,13 @@ compare-output-spec =
     (tie.spec
     Inv-loop
     μ-loop
-    wrapping-sub-usize-requires
     at-requires
     loop-holds
-    wrapping-add-usize-requires
-    expected-requires
-    element-copy-out-compare
+    output-at-requires
     slice-aggregate-compare
-    wide-requires
     mul-wide
     shared-slice-read-wide
-    wide-requires-2
+    wide-requires
     compare-requires
     add-i
     loop-less
