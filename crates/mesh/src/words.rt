@@ -132,6 +132,20 @@ fn take_number(i: usize, w: Words, n: u32, text: &[u8], numbers: &mut [u32; 9]) 
     )
 }
 
+// Takes --box. A second one is wrong.
+fn take_box(i: usize, w: Words, text: &[u8]) -> Words {
+    if w.boxed {
+        return wrong(w, i, text, b"', stands there a second time\n");
+    }
+    Words {
+        wrong: w.wrong,
+        unit: w.unit,
+        shape: w.shape,
+        boxed: true,
+        corners: 0,
+    }
+}
+
 // Takes the i-th word.
 fn take(i: usize, w: Words, numbers: &mut [u32; 9]) -> Words {
     let mut text = [0u8; 64];
@@ -147,13 +161,7 @@ fn take(i: usize, w: Words, numbers: &mut [u32; 9]) -> Words {
             boxed: w.boxed,
             corners: w.corners,
         },
-        Word::Box => Words {
-            wrong: w.wrong,
-            unit: w.unit,
-            shape: w.shape,
-            boxed: true,
-            corners: 0,
-        },
+        Word::Box => take_box(i, w, &text[..n]),
         Word::Number(value) => take_number(i, w, value, &text[..n], numbers),
         Word::Other => wrong(
             w,
