@@ -1,0 +1,478 @@
+/* Hostile words and files for host/mesh_file.c, which is compiled in with its main under another name and its allocations through this file. What it prints, its exit status, its memory and
+ * its open files are held to what its head says, with the second reading of document 01 (oracle/reading) as the mesher.
+ */
+#define _GNU_SOURCE
+#include "common.h"
+#include "reading.h"
+
+#include <fcntl.h>
+#include <stdarg.h>
+#include <stdio.h>
+#include <stdio_ext.h>
+#include <stdlib.h>
+#include <string.h>
+#include <sys/mman.h>
+#include <unistd.h>
+
+int mesh_file_main(int argc, char **argv);
+void *fire_malloc(size_t size);
+void *fire_realloc(void *old, size_t size);
+void fire_free(void *old);
+
+const char *const target_name = "host/mesh_file.c";
+
+/* ---- the program's memory: what is not given back, and an allocation that fails */
+
+#define MOST_BLOCKS 16
+static void *blocks[MOST_BLOCKS];
+static int asked, fail_at; /* the allocation that fails, from 1; 0 for none */
+
+static void keep(void *old, void *block)
+{
+    int i;
+
+    for (i = 0; i < MOST_BLOCKS; i++)
+        if (blocks[i] == old) {
+            blocks[i] = block;
+            return;
+        }
+    finding("memory is given back that was not asked for, or too much is asked for");
+}
+
+void *fire_malloc(size_t size)
+{
+    void *block = ++asked == fail_at ? NULL : malloc(size);
+
+    if (block != NULL)
+        keep(NULL, block);
+    return block;
+}
+
+void *fire_realloc(void *old, size_t size)
+{
+    void *block;
+
+    if (++asked == fail_at)
+        return NULL;
+    keep(old, NULL);
+    block = realloc(old, size);
+    keep(NULL, block);
+    return block;
+}
+
+void fire_free(void *old)
+{
+    if (old != NULL)
+        keep(old, NULL);
+    free(old);
+}
+
+/* ---- the run under way */
+
+#define MOST_WORDS 24
+#define FILES 3
+static char words[MOST_WORDS][64], *argv[MOST_WORDS + 1], long_name[5000];
+static int argc;
+
+static struct {
+    char name[32];
+    int fd;
+    uint8_t *bytes;
+    size_t size;
+} files[FILES];
+#define MOST_BYTES (2 * 34 * 34 * 34 + 64)
+
+static int out_fd, err_fd, full_fd;
+static uint64_t runs, by_status[3], meshed, unread, refused[18], quads_printed, failed_allocations, failed_writes;
+
+void target_describe(int fd)
+{
+    int i;
+
+    dprintf(fd, "fire: mesh_file");
+    for (i = 1; i < argc; i++)
+        dprintf(fd, " '%.60s'", argv[i]);
+    for (i = 0; i < FILES; i++)
+        dprintf(fd, "; %s has %lu bytes", files[i].name, (unsigned long)files[i].size);
+    dprintf(fd, "; the allocation that fails: %d\n", fail_at);
+}
+
+void target_report(int fd)
+{
+    int i;
+
+    dprintf(fd, "fire: mesh_file: %llu runs: %llu with status 0, %llu with 1, %llu with 2; with an allocation that failed %llu, with an output that could not be written %llu\n", (unsigned long long)runs,
+            (unsigned long long)by_status[0], (unsigned long long)by_status[1], (unsigned long long)by_status[2], (unsigned long long)failed_allocations, (unsigned long long)failed_writes);
+    dprintf(fd, "fire: mesh_file: %llu files meshed with %llu quads, %llu not read; refused", (unsigned long long)meshed, (unsigned long long)quads_printed, (unsigned long long)unread);
+    for (i = 1; i < 18; i++)
+        if (refused[i] != 0)
+            dprintf(fd, " by %d: %llu", i, (unsigned long long)refused[i]);
+    dprintf(fd, "\n");
+}
+
+/* ---- what it should print */
+
+static char *text;
+static size_t text_size, text_room;
+
+static void __attribute__((format(printf, 1, 2))) expect(const char *form, ...)
+{
+    va_list list;
+
+    if (text_room - text_size < 6000) {
+        text_room = 2 * text_room + 65536;
+        text = realloc(text, text_room);
+        if (text == NULL)
+            abort();
+    }
+    va_start(list, form);
+    text_size += (size_t)vsnprintf(text + text_size, text_room - text_size, form, list);
+    va_end(list);
+}
+
+struct job {
+    int unit, quads, boxed;
+    uint32_t shape[3], min[3], max[3];
+};
+
+/* A decimal number of at most 32 bits. */
+static int number_of(const char *word, uint32_t *n)
+{
+    uint64_t value = 0;
+
+    if (*word == '\0')
+        return 0;
+    for (; *word != '\0'; word++) {
+        if (*word < '0' || *word > '9')
+            return 0;
+        value = value * 10 + (uint64_t)(*word - '0');
+        if (value > UINT32_MAX)
+            return 0;
+    }
+    *n = (uint32_t)value;
+    return 1;
+}
+
+/* Reads the words as the program's head has them: the place of the first file, or 0 where they are wrong. */
+static int read_words(struct job *job)
+{
+    int i, k;
+
+    memset(job, 0, sizeof *job);
+    for (i = 1; i < argc && argv[i][0] == '-' && argv[i][1] == '-'; i++) {
+        if (strcmp(argv[i], "--unit") == 0)
+            job->unit = 1;
+        else if (strcmp(argv[i], "--quads") == 0)
+            job->quads = 1;
+        else if (strcmp(argv[i], "--box") == 0) {
+            job->boxed = 1;
+            for (k = 0; k < 6; k++)
+                if (++i >= argc || !number_of(argv[i], k < 3 ? &job->min[k] : &job->max[k - 3]))
+                    return 0;
+        } else
+            return 0;
+    }
+    for (k = 0; k < 3; k++, i++) {
+        if (i >= argc || !number_of(argv[i], &job->shape[k]) || job->shape[k] < 1 || job->shape[k] > 256)
+            return 0;
+        if (!job->boxed)
+            job->max[k] = job->shape[k] - 1;
+    }
+    return i < argc ? i : 0;
+}
+
+/* Meshes a file by the second reading; answers how many could not be meshed, 0 or 1, and adds to the text what should be printed. */
+static int mesh_again(const struct job *job, const char *name, size_t *capacity, int *asks, char *said, size_t said_room)
+{
+    static const int32_t cube[12] = {1, 0, -1, 0, 1, 2, -1, 2, 1, 1, -1, 1};
+    static const char *const faces[6] = {"+X", "-X", "+Y", "-Y", "+Z", "-Z"};
+    static uint16_t voxels[MOST_BYTES / 2];
+    static uint8_t visited[MOST_BYTES / 2];
+    size_t block = (size_t)job->shape[0] * job->shape[1] * job->shape[2], numbers = job->unit ? 3 : 5, room, i, all = 0, at = 0;
+    uint64_t answer[9], count;
+    uint32_t *out;
+    int f, k, full = 0;
+
+    for (f = 0; f < FILES && strcmp(name, files[f].name) != 0; f++)
+        ;
+    if (f == FILES || files[f].size != 2 * block) {
+        unread++;
+        return 1;
+    }
+    for (i = 0; i < block; i++)
+        voxels[i] = (uint16_t)(files[f].bytes[2 * i] | files[f].bytes[2 * i + 1] << 8);
+    room = 6 * block * numbers;
+    out = malloc(room * sizeof *out + 1);
+    if (out == NULL)
+        abort();
+    if (job->unit)
+        reading_visible_block_faces(job->shape, job->min, job->max, cube, voxels, block, out, room, answer);
+    else
+        reading_greedy_quads(job->shape, job->min, job->max, cube, voxels, block, visited, block, out, room, answer);
+    for (k = 0; k < 6; k++)
+        all += (size_t)answer[2 + k];
+    while (answer[0] == 0 && all > *capacity && !full) {
+        if (++*asks == fail_at)
+            full = 1;
+        else
+            *capacity *= 2;
+    }
+    if (full) {
+        answer[0] = 9;
+        answer[1] = *capacity;
+    }
+    if (answer[0] != 0) {
+        refused[answer[0]]++;
+        snprintf(said, said_room, "%s: refused by %llu at %llu: ", name, (unsigned long long)answer[0], (unsigned long long)answer[1]);
+        free(out);
+        return 1;
+    }
+    meshed++;
+    quads_printed += all;
+    for (k = 0; k < 6; k++)
+        for (count = 0; job->quads && count < answer[2 + k]; count++) {
+            expect("%s", faces[k]);
+            for (i = 0; i < numbers; i++)
+                expect(" %u", out[at++]);
+            expect("\n");
+        }
+    expect("%s: %lu quads:", name, (unsigned long)all);
+    for (k = 0; k < 6; k++)
+        expect(" %s %llu", faces[k], (unsigned long long)answer[2 + k]);
+    expect(", tests %llu\n", (unsigned long long)answer[8]);
+    free(out);
+    return 0;
+}
+
+/* ---- what is drawn */
+
+static const char *const odd_words[] = {"",   "0",  "-1", "+3",          "3x",         " 3",         "3 ",  "0x3", "1e1", "4294967295", "4294967296", "4294967299", "18446744073709551619", "99999999999999999999999999999",
+                                        "00", "--", "-",  "--boxed", "--unit", "--quads", "--box", "3.0", "257", "256", "\xD9\xA3", "%s%n%s%n", "000000000000000000000003", "2147483648"};
+
+static void add_word(const char *word)
+{
+    if (argc < MOST_WORDS) {
+        snprintf(words[argc], sizeof words[argc], "%s", word);
+        argv[argc] = words[argc];
+        argc++;
+    }
+}
+
+static void add_number(struct bytes *b, uint32_t number)
+{
+    char word[24];
+
+    if (chance(b, 4)) {
+        add_word(odd_words[draw_below(b, sizeof odd_words / sizeof odd_words[0])]);
+        return;
+    }
+    snprintf(word, sizeof word, "%u", number);
+    add_word(word);
+}
+
+static void draw_file(struct bytes *b, int f, size_t block, int checkered)
+{
+    uint64_t state = draw_word(b);
+    uint32_t empty = chance(b, 64) ? draw_below(b, 257) : 64 + draw_below(b, 129), merges = 1 + draw_below(b, 3), bad = chance(b, 24);
+    size_t i, size = 2 * block;
+
+    switch (draw_below(b, 16)) {
+    case 0: size = size == 0 ? 0 : size - 1; break;
+    case 1: size += 1; break;
+    case 2: size = 0; break;
+    case 3: size = draw_below(b, 4096); break;
+    default: break;
+    }
+    if (size > MOST_BYTES)
+        size = draw_below(b, 4096);
+    for (i = 0; i < size; i++) {
+        uint64_t r = next_random(&state);
+        uint32_t kind = (r & 255) < empty ? 0 : 1 + (r >> 8 & 1);
+
+        files[f].bytes[i] = i % 2 == 0 ? (uint8_t)((r >> 16) % merges) : (uint8_t)(kind << 6);
+    }
+    if (checkered)
+        for (i = 0; 2 * i + 1 < size; i++)
+            files[f].bytes[2 * i + 1] = (i % 34 + i / 34 % 34 + i / 34 / 34) % 2 ? 128 : 0;
+    if (bad && size > 1)
+        files[f].bytes[draw_below(b, 65536) % (size / 2) * 2 + 1] |= 0xC0;
+    files[f].size = size;
+    if (ftruncate(files[f].fd, 0) != 0 || pwrite(files[f].fd, files[f].bytes, size, 0) != (ssize_t)size)
+        abort();
+}
+
+static void draw_run(struct bytes *b)
+{
+    static const char *const no_files[] = {"/nowhere/at/all", "/", "", "/dev/null", "-", "%s%s%n", "."};
+    uint32_t shape[3], least, most, i, boxed = draw_below(b, 8), checkered = draw_below(b, 512) == 77;
+    size_t block = 1;
+
+    argc = 0;
+    add_word("mesh_file");
+    for (i = 0; i < 3; i++)
+        shape[i] = checkered ? 34 : chance(b, 8) ? 254 + draw_below(b, 4) : chance(b, 2) ? 0 : 2 + draw_below(b, 6);
+    if (checkered || chance(b, 96))
+        add_word("--unit");
+    if (chance(b, 96))
+        add_word("--quads");
+    if (chance(b, 6))
+        add_word(odd_words[draw_below(b, sizeof odd_words / sizeof odd_words[0])]);
+    if (boxed < 3 && !checkered) {
+        uint32_t corner[6];
+
+        for (i = 0; i < 3; i++) {
+            least = draw_below(b, shape[i] + 1);
+            most = draw_below(b, shape[i] + 2);
+            corner[i] = boxed == 0 || least < most ? least : most;
+            corner[i + 3] = boxed == 0 || least < most ? most : least;
+        }
+        add_word("--box");
+        for (i = 0; i < 6; i++)
+            add_number(b, corner[i]);
+    }
+    for (i = 0; i < 3; i++) {
+        add_number(b, shape[i]);
+        block *= shape[i];
+    }
+    for (i = 0; i < FILES; i++)
+        files[i].size = 0;
+    for (i = draw_below(b, 32) == 5 ? 0 : 1 + draw_below(b, FILES); i > 0; i--) {
+        if (chance(b, 24)) {
+            uint32_t k = draw_below(b, sizeof no_files / sizeof no_files[0] + 1);
+
+            add_word(k < sizeof no_files / sizeof no_files[0] ? no_files[k] : "");
+            if (k == sizeof no_files / sizeof no_files[0])
+                argv[argc - 1] = long_name;
+        } else {
+            draw_file(b, (int)i - 1, block, (int)checkered);
+            add_word(files[i - 1].name);
+        }
+    }
+    if (chance(b, 8) && argc > 1)
+        argc = 1 + (int)draw_below(b, (uint32_t)argc - 1);
+    argv[argc] = NULL;
+    fail_at = chance(b, 12) ? 1 + (int)draw_below(b, 6) : checkered && chance(b, 96) ? 5 : 0;
+}
+
+/* ---- the target */
+
+void target_prepare(void)
+{
+    int i;
+
+    memset(long_name, 'n', sizeof long_name - 1);
+    expect("%s", ""); /* room for the text */
+    for (i = 0; i < FILES; i++) {
+        files[i].fd = memfd_create("block", 0);
+        files[i].bytes = malloc(MOST_BYTES);
+        if (files[i].fd < 0 || files[i].bytes == NULL)
+            abort();
+        snprintf(files[i].name, sizeof files[i].name, "/proc/self/fd/%d", files[i].fd);
+    }
+    out_fd = memfd_create("out", 0);
+    err_fd = memfd_create("err", 0);
+    full_fd = open("/dev/full", O_WRONLY);
+    if (out_fd < 0 || err_fd < 0 || full_fd < 0)
+        abort();
+}
+
+/* What was written to a file, as a string. */
+static char *written(int fd, size_t *size)
+{
+    static char *all[2];
+    off_t end = lseek(fd, 0, SEEK_END);
+    char **at = &all[fd == err_fd];
+
+    *at = realloc(*at, (size_t)end + 1);
+    if (*at == NULL || pread(fd, *at, (size_t)end, 0) != (ssize_t)end)
+        abort();
+    (*at)[end] = '\0';
+    *size = (size_t)end;
+    return *at;
+}
+
+static int lowest_free(void)
+{
+    int fd = dup(report_fd);
+
+    close(fd);
+    return fd;
+}
+
+int LLVMFuzzerTestOneInput(const uint8_t *data, size_t size)
+{
+    static char said[FILES][128];
+    struct bytes b = bytes_of(data, size);
+    int status, wanted = 0, first, free_before, full, i, asks = 4, could_start = 1, n = 0;
+    size_t capacity = 65536, out_size, err_size;
+    const char *out, *err;
+    struct job job;
+
+    started(data, size);
+    draw_run(&b);
+    full = chance(&b, 4);
+
+    /* what should come of it */
+    text_size = 0;
+    memset(said, 0, sizeof said);
+    first = read_words(&job);
+    if (first == 0)
+        wanted = 2;
+    else if (fail_at >= 1 && fail_at <= 4) {
+        wanted = 1;
+        could_start = 0;
+    } else
+        for (i = first; i < argc; i++)
+            if (mesh_again(&job, argv[i], &capacity, &asks, said[n], sizeof said[n])) {
+                wanted = 1;
+                n += n < FILES - 1;
+            }
+    if (full && text_size != 0)
+        wanted = 1;
+
+    fflush(stdout);
+    if (dup2(full ? full_fd : out_fd, 1) < 0 || dup2(err_fd, 2) < 0 || ftruncate(out_fd, 0) != 0 || ftruncate(err_fd, 0) != 0)
+        abort();
+    lseek(out_fd, 0, SEEK_SET);
+    lseek(err_fd, 0, SEEK_SET);
+    asked = 0;
+    free_before = lowest_free();
+    entered();
+    status = mesh_file_main(argc, argv);
+    left();
+    fflush(stdout);
+    __fpurge(stdout);
+    clearerr(stdout);
+
+    runs++;
+    if (status < 0 || status > 2 || status != wanted)
+        finding("the exit status is %d, and should be %d", status, wanted);
+    by_status[status]++;
+    failed_allocations += first != 0 && fail_at != 0 && asked >= fail_at;
+    failed_writes += full && text_size != 0;
+    out = written(out_fd, &out_size);
+    err = written(err_fd, &err_size);
+    if (!full && (out_size != text_size || memcmp(out, text, text_size) != 0))
+        finding("what is printed is not the second reading's");
+    if (status != 0 && err_size == 0)
+        finding("nothing is said on standard error");
+    if (status == 2 && strstr(err, "usage: mesh_file") == NULL)
+        finding("the usage is not said");
+    if (status == 0 && strstr(err, "refused") != NULL)
+        finding("a refusal is said, and the status is 0");
+    for (i = 0; i < FILES; i++)
+        if (said[i][0] != '\0' && strstr(err, said[i]) == NULL)
+            finding("not said on standard error: %s", said[i]);
+    if (!could_start && strstr(err, "no memory") == NULL)
+        finding("it is not said that there is no memory");
+    if (lowest_free() != free_before)
+        finding("a file is left open");
+    for (i = 0; i < MOST_BLOCKS; i++)
+        if (blocks[i] != NULL) {
+            if (could_start)
+                finding("memory is not given back");
+            free(blocks[i]); /* a program that ends gives it back */
+            blocks[i] = NULL;
+        }
+    return 0;
+}
