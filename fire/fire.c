@@ -56,7 +56,7 @@ enum function { GREEDY, UNIT, CORNER, CORNERS, NORMAL, INDICES, TEX, FUNCTIONS }
 static const char *const names[FUNCTIONS] = {"spunmarrow_greedy_quads", "spunmarrow_visible_block_faces", "spunmarrow_corner", "spunmarrow_corners",
                                              "spunmarrow_normal", "spunmarrow_indices", "spunmarrow_tex_coords"};
 #define NUMBERS 18
-static uint64_t by_number[FUNCTIONS][NUMBERS], inputs, quads_listed, accepted_with_quads, flush_end, flush_start, no_memory, long_lengths;
+static uint64_t by_number[FUNCTIONS][NUMBERS], inputs, quads_listed, accepted_with_quads, flush_end, flush_start, no_memory, long_lengths, overlapping;
 
 /* ---- the call under way */
 
@@ -109,8 +109,8 @@ void target_report(int fd)
         dprintf(fd, "\n");
     }
     dprintf(fd, "fire: of the accepted calls of the meshers %llu listed quads, %llu in all\n", (unsigned long long)accepted_with_quads, (unsigned long long)quads_listed);
-    dprintf(fd, "fire: buffers flush against the page behind them %llu, against the page before them %llu, of length 0 and nowhere %llu; lengths past the memory lent %llu\n",
-            (unsigned long long)flush_end, (unsigned long long)flush_start, (unsigned long long)no_memory, (unsigned long long)long_lengths);
+    dprintf(fd, "fire: buffers flush against the page behind them %llu, against the page before them %llu, of length 0 and nowhere %llu; lengths past the memory lent %llu; read-only buffers that overlap %llu\n",
+            (unsigned long long)flush_end, (unsigned long long)flush_start, (unsigned long long)no_memory, (unsigned long long)long_lengths, (unsigned long long)overlapping);
     dprintf(fd, "fire: %llu inputs, %llu calls of the C interface\n", (unsigned long long)inputs, (unsigned long long)all);
 }
 
@@ -119,6 +119,7 @@ void target_report(int fd)
 struct lease {
     struct room *room;
     size_t from, bytes;
+    int at_end;
     uint8_t *lent, *mine;
 };
 
@@ -133,13 +134,8 @@ static struct lease lend(struct bytes *b, enum kind kind, size_t bytes)
             abort();
     l.room = &rooms[kind][class];
     l.bytes = bytes;
-    if (chance(b, 160)) {
-        l.from = l.room->size - bytes;
-        flush_end++;
-    } else {
-        l.from = 0;
-        flush_start++;
-    }
+    l.at_end = chance(b, 160);
+    l.from = l.at_end ? l.room->size - bytes : 0;
     l.lent = l.room->lent + l.from;
     l.mine = l.room->mine + l.from;
     return l;
@@ -151,6 +147,16 @@ static struct lease lend_copy(struct bytes *b, enum kind kind, const void *of, s
 
     memcpy(l.mine, of, bytes);
     return l;
+}
+
+/* What the call is handed. */
+static void *hand(const struct lease *l)
+{
+    if (l->at_end)
+        flush_end++;
+    else
+        flush_start++;
+    return l->lent;
 }
 
 /* Takes a buffer back: nothing beside it has changed, and the room is at rest again. */
@@ -181,7 +187,7 @@ static void *nowhere(struct bytes *b, enum kind kind)
 uint64_t fire_broken, fire_stack;
 void *fire_target;
 void fire_through(void);
-__asm__(".text\n"
+__asm__(".pushsection .text\n"
         ".globl fire_through\n"
         "fire_through:\n"
         "  push %rbp\n  push %rbx\n  push %r12\n  push %r13\n  push %r14\n  push %r15\n"
@@ -200,7 +206,8 @@ __asm__(".text\n"
         "  movabs $0x6F6F6F6F6F6F6F6F, %rcx\n  xor %r15, %rcx\n  or %rcx, %rdx\n"
         "  mov %rdx, fire_broken(%rip)\n"
         "  add $40, %rsp\n  pop %r15\n  pop %r14\n  pop %r13\n  pop %r12\n  pop %rbx\n  pop %rbp\n"
-        "  ret\n");
+        "  ret\n"
+        ".popsection\n");
 
 /* The same types, but that a number of 32 bits is handed over in all 64 of its register: a callee may not look at the upper half. */
 typedef void greedy_type(const void *, const void *, const void *, const void *, const void *, size_t, void *, size_t, void *, size_t, void *);
@@ -397,27 +404,16 @@ static struct lot draw_length(struct bytes *b, size_t needed, size_t most)
     return l;
 }
 
+static uint8_t *dirt; /* random bytes, as many as the largest room has */
+
 static void dirty(struct bytes *b, uint8_t *at, size_t bytes)
 {
-    uint64_t state = draw_word(b), r = 0;
-    int kind = (int)draw_below(b, 4);
-    size_t i;
-
-    for (i = 0; i < bytes; i++) {
-        if (i % 8 == 0)
-            r = next_random(&state);
-        at[i] = kind == 0 ? 0 : kind == 1 ? 1 : kind == 2 ? 0xA5 : (uint8_t)(r >> 8 * (i % 8));
+    switch (draw_below(b, 4)) {
+    case 0: memset(at, 0, bytes); break;
+    case 1: memset(at, 1, bytes); break;
+    case 2: memset(at, 0xA5, bytes); break;
+    default: memcpy(at, dirt + draw_below(b, 256), bytes); break;
     }
-}
-
-static void *copy_of(const void *of, size_t bytes)
-{
-    void *copy = malloc(bytes + 1);
-
-    if (copy == NULL)
-        abort();
-    memcpy(copy, of, bytes);
-    return copy;
 }
 
 static void read_again(int greedy, const uint16_t *voxels, size_t voxels_len, uint8_t *visited, size_t visited_len, uint32_t *out, size_t out_len, uint64_t answer[9])
@@ -471,14 +467,16 @@ static void mesh_once(struct bytes *b, int greedy)
 {
     static uint16_t voxels[MOST_VOXELS];
     static uint32_t scratch[MOST_OUT];
-    static uint8_t marks[MOST_VISITED];
+    static uint8_t marks[MOST_VISITED], m_before[MOST_VISITED], m_want[MOST_VISITED];
+    static uint32_t o_before[MOST_OUT], o_want[MOST_OUT];
     size_t block = 0, room_enough = 0, numbers = greedy ? 5 : 3;
     struct lot v_lot, m_lot = {0, 0}, o_lot;
     struct lease shape, min, max, faces, v, m = {0}, o, a;
     uint64_t product, want[9], answer[9], poison[9];
     uint16_t *voxels_at;
-    uint8_t *visited_at = NULL, *m_before = NULL, *m_want = NULL;
-    uint32_t *out_at, *o_before, *o_want, how;
+    uint8_t *visited_at = NULL;
+    uint32_t *out_at, how, overlap = 12;
+    const void *min_at, *max_at;
     int i, fits = 1;
 
     now.function = greedy ? GREEDY : UNIT;
@@ -486,14 +484,23 @@ static void mesh_once(struct bytes *b, int greedy)
     draw_shape(b, now.shape);
     draw_box(b, now.shape, now.min, now.max);
     draw_faces(b, now.faces);
+    if (chance(b, 8)) { /* what is only read may overlap: min lies among the faces, or max is the shape */
+        overlap = draw_below(b, 11);
+        overlapping++;
+        if (overlap < 10)
+            memcpy(now.min, now.faces + overlap, sizeof now.min);
+        else
+            memcpy(now.max, now.shape, sizeof now.max);
+    }
     for (i = 0; i < 3; i++)
         fits = fits && now.shape[i] >= 1 && now.shape[i] <= 256;
     /* where the shape is refused the lengths go by its product modulo 2 to the 64th, which a careless caller would have taken */
     product = (uint64_t)now.shape[0] * now.shape[1] * now.shape[2];
     block = (size_t)product;
     if (fits && block > 16384) { /* too slow to read again; such blocks are the oracle's */
-        now.shape[1] = now.shape[2] = 3;
-        block = (size_t)now.shape[0] * 9;
+        now.shape[0] = now.shape[1] = now.shape[2] = 3;
+        block = 27;
+        overlap = 12;
     }
     v_lot = draw_length(b, block, MOST_VOXELS - 64);
     draw_voxels(b, voxels, block, v_lot.real);
@@ -538,20 +545,22 @@ static void mesh_once(struct bytes *b, int greedy)
     min = lend_copy(b, MIN, now.min, sizeof now.min);
     max = lend_copy(b, MAX, now.max, sizeof now.max);
     faces = lend_copy(b, FACES, now.faces, sizeof now.faces);
+    min_at = overlap < 10 ? faces.lent + overlap * sizeof now.faces[0] : hand(&min);
+    max_at = overlap == 10 ? shape.lent : hand(&max);
     v = lend_copy(b, VOXELS, voxels, v_lot.real * sizeof voxels[0]);
-    voxels_at = v_lot.claimed == 0 ? nowhere(b, VOXELS) : (void *)v.lent;
+    voxels_at = v_lot.claimed == 0 ? nowhere(b, VOXELS) : hand(&v);
     if (greedy) {
         m = lend(b, VISITED, m_lot.real);
         dirty(b, m.mine, m.bytes);
-        m_before = copy_of(m.mine, m.bytes);
-        m_want = copy_of(m.mine, m.bytes);
-        visited_at = m_lot.claimed == 0 ? nowhere(b, VISITED) : m.lent;
+        memcpy(m_before, m.mine, m.bytes);
+        memcpy(m_want, m.mine, m.bytes);
+        visited_at = m_lot.claimed == 0 ? nowhere(b, VISITED) : hand(&m);
     }
     o = lend(b, OUT, o_lot.real * sizeof *out_at);
     dirty(b, o.mine, o.bytes);
-    o_before = copy_of(o.mine, o.bytes);
-    o_want = copy_of(o.mine, o.bytes);
-    out_at = o_lot.claimed == 0 ? nowhere(b, OUT) : (void *)o.lent;
+    memcpy(o_before, o.mine, o.bytes);
+    memcpy(o_want, o.mine, o.bytes);
+    out_at = o_lot.claimed == 0 ? nowhere(b, OUT) : hand(&o);
     for (i = 0; i < 9; i++)
         poison[i] = 0xFACE000000000000u + (uint64_t)i;
     a = lend_copy(b, ANSWER, poison, sizeof poison);
@@ -560,9 +569,9 @@ static void mesh_once(struct bytes *b, int greedy)
 
     _mm_setcsr(DEFAULT_FLOATS);
     if (greedy)
-        THROUGH(greedy_type, spunmarrow_greedy_quads)(shape.lent, min.lent, max.lent, faces.lent, voxels_at, v_lot.claimed, visited_at, m_lot.claimed, out_at, o_lot.claimed, a.lent);
+        THROUGH(greedy_type, spunmarrow_greedy_quads)(hand(&shape), min_at, max_at, hand(&faces), voxels_at, v_lot.claimed, visited_at, m_lot.claimed, out_at, o_lot.claimed, hand(&a));
     else
-        THROUGH(unit_type, spunmarrow_visible_block_faces)(shape.lent, min.lent, max.lent, faces.lent, voxels_at, v_lot.claimed, out_at, o_lot.claimed, a.lent);
+        THROUGH(unit_type, spunmarrow_visible_block_faces)(hand(&shape), min_at, max_at, hand(&faces), voxels_at, v_lot.claimed, out_at, o_lot.claimed, hand(&a));
     kept_registers();
 
     /* what it left */
@@ -591,10 +600,6 @@ static void mesh_once(struct bytes *b, int greedy)
     take_back(&a, "the answer");
     if (greedy)
         take_back(&m, "the visited bytes");
-    free(m_before);
-    free(m_want);
-    free(o_before);
-    free(o_want);
 
     by_number[now.function][answer[0]]++;
     if (answer[0] == 0) {
@@ -663,19 +668,19 @@ static void draw_once(struct bytes *b, enum function function)
     _mm_setcsr(DEFAULT_FLOATS);
     switch (function) {
     case CORNER:
-        refusal = THROUGH(corner_type, spunmarrow_corner)(wide((uint32_t)now.sign), wide(now.permutation), quad.lent, wide(now.number), now.size, out.lent);
+        refusal = THROUGH(corner_type, spunmarrow_corner)(wide((uint32_t)now.sign), wide(now.permutation), hand(&quad), wide(now.number), now.size, hand(&out));
         break;
     case CORNERS:
-        refusal = THROUGH(corners_type, spunmarrow_corners)(wide((uint32_t)now.sign), wide(now.permutation), quad.lent, out.lent);
+        refusal = THROUGH(corners_type, spunmarrow_corners)(wide((uint32_t)now.sign), wide(now.permutation), hand(&quad), hand(&out));
         break;
     case NORMAL:
-        refusal = THROUGH(normal_type, spunmarrow_normal)(wide((uint32_t)now.sign), wide(now.permutation), out.lent);
+        refusal = THROUGH(normal_type, spunmarrow_normal)(wide((uint32_t)now.sign), wide(now.permutation), hand(&out));
         break;
     case INDICES:
-        refusal = THROUGH(indices_type, spunmarrow_indices)(wide((uint32_t)now.sign), wide(now.permutation), wide(now.number), out.lent);
+        refusal = THROUGH(indices_type, spunmarrow_indices)(wide((uint32_t)now.sign), wide(now.permutation), wide(now.number), hand(&out));
         break;
     default:
-        refusal = THROUGH(tex_type, spunmarrow_tex_coords)(wide((uint32_t)now.sign), wide(now.permutation), wide(now.number), now.flip != 0, quad.lent, out.lent);
+        refusal = THROUGH(tex_type, spunmarrow_tex_coords)(wide((uint32_t)now.sign), wide(now.permutation), wide(now.number), now.flip != 0, hand(&quad), hand(&out));
         break;
     }
     kept_registers();
@@ -705,13 +710,17 @@ static void draw_once(struct bytes *b, enum function function)
 void target_prepare(void)
 {
     size_t largest, i;
+    uint64_t state = 0;
     int kind, class;
 
     page = (size_t)sysconf(_SC_PAGESIZE);
     largest = page << (CLASSES - 1);
     canary = malloc(largest);
-    if (canary == NULL)
+    dirt = malloc(largest + 256);
+    if (canary == NULL || dirt == NULL)
         abort();
+    for (i = 0; i < largest + 256; i++)
+        dirt[i] = (uint8_t)next_random(&state);
     for (i = 0; i < largest; i++)
         canary[i] = (uint8_t)(0xC0 | (i * 37 + 11 + (i >> 8)) % 64); /* as voxels they are bad */
     for (kind = 0; kind < KINDS; kind++)

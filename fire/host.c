@@ -21,50 +21,81 @@ void fire_free(void *old);
 
 const char *const target_name = "host/mesh_file.c";
 
-/* ---- the program's memory: what is not given back, and an allocation that fails */
+/* ---- the program's memory: an allocation that fails, and what is not given back. In half of the runs each block ends flush against a page that may not be touched, for the archive, which
+   no sanitizer sees; in the others the sanitizer has them. */
 
+struct block {
+    uint8_t *at, *map;
+    size_t size, mapped;
+};
 #define MOST_BLOCKS 16
-static void *blocks[MOST_BLOCKS];
+static struct block blocks[MOST_BLOCKS];
 static int asked, fail_at; /* the allocation that fails, from 1; 0 for none */
+static int guarded;
 
-static void keep(void *old, void *block)
+static struct block *block_at(const void *at)
 {
     int i;
 
     for (i = 0; i < MOST_BLOCKS; i++)
-        if (blocks[i] == old) {
-            blocks[i] = block;
-            return;
-        }
+        if (blocks[i].at == at)
+            return &blocks[i];
     finding("memory is given back that was not asked for, or too much is asked for");
+}
+
+static void drop(struct block *b)
+{
+    if (b->map != NULL)
+        munmap(b->map, b->mapped);
+    else
+        free(b->at);
+    memset(b, 0, sizeof *b);
+}
+
+static void *take(size_t size)
+{
+    size_t page = (size_t)sysconf(_SC_PAGESIZE);
+    struct block *b = block_at(NULL);
+
+    b->size = size;
+    if (guarded) {
+        b->mapped = (size + page - 1) / page * page + 2 * page;
+        b->map = mmap(NULL, b->mapped, PROT_NONE, MAP_PRIVATE | MAP_ANONYMOUS, -1, 0);
+        if (b->map == MAP_FAILED || mprotect(b->map + page, b->mapped - 2 * page, PROT_READ | PROT_WRITE) != 0)
+            abort();
+        b->at = b->map + b->mapped - page - size;
+    } else {
+        b->at = malloc(size);
+        if (b->at == NULL)
+            abort();
+    }
+    memset(b->at, 0xA5, size < 65536 ? size : 65536); /* what is new is not 0 */
+    return b->at;
 }
 
 void *fire_malloc(size_t size)
 {
-    void *block = ++asked == fail_at ? NULL : malloc(size);
-
-    if (block != NULL)
-        keep(NULL, block);
-    return block;
+    return ++asked == fail_at ? NULL : take(size);
 }
 
 void *fire_realloc(void *old, size_t size)
 {
-    void *block;
+    struct block *b;
+    void *new;
 
     if (++asked == fail_at)
         return NULL;
-    keep(old, NULL);
-    block = realloc(old, size);
-    keep(NULL, block);
-    return block;
+    b = block_at(old);
+    new = take(size);
+    memcpy(new, old, size < b->size ? size : b->size);
+    drop(b);
+    return new;
 }
 
 void fire_free(void *old)
 {
     if (old != NULL)
-        keep(old, NULL);
-    free(old);
+        drop(block_at(old));
 }
 
 /* ---- the run under way */
@@ -83,7 +114,7 @@ static struct {
 #define MOST_BYTES (2 * 34 * 34 * 34 + 64)
 
 static int out_fd, err_fd, full_fd;
-static uint64_t runs, by_status[3], meshed, unread, refused[18], quads_printed, failed_allocations, failed_writes;
+static uint64_t runs, guarded_runs, by_status[3], meshed, unread, refused[18], quads_printed, failed_allocations, failed_writes;
 
 void target_describe(int fd)
 {
@@ -94,15 +125,15 @@ void target_describe(int fd)
         dprintf(fd, " '%.60s'", argv[i]);
     for (i = 0; i < FILES; i++)
         dprintf(fd, "; %s has %lu bytes", files[i].name, (unsigned long)files[i].size);
-    dprintf(fd, "; the allocation that fails: %d\n", fail_at);
+    dprintf(fd, "; the allocation that fails: %d; guard pages: %d\n", fail_at, guarded);
 }
 
 void target_report(int fd)
 {
     int i;
 
-    dprintf(fd, "fire: mesh_file: %llu runs: %llu with status 0, %llu with 1, %llu with 2; with an allocation that failed %llu, with an output that could not be written %llu\n", (unsigned long long)runs,
-            (unsigned long long)by_status[0], (unsigned long long)by_status[1], (unsigned long long)by_status[2], (unsigned long long)failed_allocations, (unsigned long long)failed_writes);
+    dprintf(fd, "fire: mesh_file: %llu runs: %llu with status 0, %llu with 1, %llu with 2; with guard pages %llu, with an allocation that failed %llu, with an output that could not be written %llu\n", (unsigned long long)runs,
+            (unsigned long long)by_status[0], (unsigned long long)by_status[1], (unsigned long long)by_status[2], (unsigned long long)guarded_runs, (unsigned long long)failed_allocations, (unsigned long long)failed_writes);
     dprintf(fd, "fire: mesh_file: %llu files meshed with %llu quads, %llu not read; refused", (unsigned long long)meshed, (unsigned long long)quads_printed, (unsigned long long)unread);
     for (i = 1; i < 18; i++)
         if (refused[i] != 0)
@@ -304,7 +335,7 @@ static void draw_file(struct bytes *b, int f, size_t block, int checkered)
 static void draw_run(struct bytes *b)
 {
     static const char *const no_files[] = {"/nowhere/at/all", "/", "", "/dev/null", "-", "%s%s%n", "."};
-    uint32_t shape[3], least, most, i, boxed = draw_below(b, 8), checkered = draw_below(b, 512) == 77;
+    uint32_t shape[3], least, most, i, boxed = draw_below(b, 8), checkered = chance(b, 3);
     size_t block = 1;
 
     argc = 0;
@@ -411,6 +442,7 @@ int LLVMFuzzerTestOneInput(const uint8_t *data, size_t size)
     started(data, size);
     draw_run(&b);
     full = chance(&b, 4);
+    guarded = chance(&b, 128);
 
     /* what should come of it */
     text_size = 0;
@@ -445,6 +477,7 @@ int LLVMFuzzerTestOneInput(const uint8_t *data, size_t size)
     clearerr(stdout);
 
     runs++;
+    guarded_runs += (uint64_t)guarded;
     if (status < 0 || status > 2 || status != wanted)
         finding("the exit status is %d, and should be %d", status, wanted);
     by_status[status]++;
@@ -468,11 +501,10 @@ int LLVMFuzzerTestOneInput(const uint8_t *data, size_t size)
     if (lowest_free() != free_before)
         finding("a file is left open");
     for (i = 0; i < MOST_BLOCKS; i++)
-        if (blocks[i] != NULL) {
+        if (blocks[i].at != NULL) {
             if (could_start)
                 finding("memory is not given back");
-            free(blocks[i]); /* a program that ends gives it back */
-            blocks[i] = NULL;
+            drop(&blocks[i]); /* a program that ends gives it back */
         }
     return 0;
 }
