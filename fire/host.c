@@ -196,6 +196,8 @@ static int read_words(struct job *job)
         else if (strcmp(argv[i], "--quads") == 0)
             job->quads = 1;
         else if (strcmp(argv[i], "--box") == 0) {
+            if (job->boxed)
+                return 0;
             job->boxed = 1;
             for (k = 0; k < 6; k++)
                 if (++i >= argc || !number_of(argv[i], k < 3 ? &job->min[k] : &job->max[k - 3]))

@@ -3,7 +3,7 @@
  *     mesh_file [--unit] [--quads] [--box X0 Y0 Z0 X1 Y1 Z1] X Y Z FILE..
  *
  * Each FILE has the X*Y*Z voxels of a block, x fastest, then y, then z, two bytes each, the low byte first. Every file is meshed on the six faces of a cube, greedily or, after
- * --unit, a quad for each visible face; --box meshes a part of the block, both corners included. A line is printed for each file: how many quads each face has, and the tests.
+ * --unit, a quad for each visible face; --box, given once, meshes a part of the block, both corners included. A line is printed for each file: how many quads each face has, and the tests.
  * --quads prints the quads as well. What can't be read or is refused is said on standard error, and the next file is gone on with. The exit status is 0 where every file was
  * meshed, 1 where some were not, and 2 where the words of the command are wrong.
  */
@@ -209,6 +209,8 @@ int main(int argc, char **argv)
         } else if (strcmp(argv[i], "--quads") == 0) {
             job.quads = 1;
         } else if (strcmp(argv[i], "--box") == 0) {
+            if (boxed)
+                return usage("--box is given once");
             boxed = 1;
             for (k = 0; k < 6; k++)
                 if (++i >= argc || !number(argv[i], k < 3 ? &job.min[k] : &job.max[k - 3]))
