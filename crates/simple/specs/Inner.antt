@@ -7,7 +7,7 @@ use lib.ListN.{length, getD}
 use Rattle.geometry.specs.Point.{Point, at}
 use Rattle.geometry.specs.Axes.{bit}
 use Rattle.voxels.specs.declared.extent.Extent.{Extent}
-use Rattle.voxels.specs.Voxel.{shows}
+use Rattle.voxels.specs.Voxel.{class, shows}
 use Rattle.voxels.specs.Extent.{interior}
 use Rattle.voxels.specs.Listing.{joined, Laid}
 use Rattle.voxels.specs.Visible.{modulus, offsetIndex}
@@ -41,11 +41,72 @@ sliceQuads voxels offset x wide y d high z i = inStep d (rowQuads voxels offset 
 unfoldable pub slicesQuads : List ℕ → ℕ → ℕ → ℕ → ℕ → ℕ → ℕ → ℕ → ℕ → ℕ → ℕ → List Point
 slicesQuads voxels offset x wide y d high z e deep i = inStep e (sliceQuads voxels offset x wide y d high) z i deep
 
+-- ---- what the loops count, by indices
+
+-- What `g` gives at an index, at the index a stride on, .., so many of them, summed.
+unfoldable pub total : (ℕ → ℕ) → ℕ → ℕ → ℕ → ℕ
+total g d i zero = 0
+total g d i (suc n) = g i + total g d (i + d) n
+
+-- 1 where the voxel at an index shows its face to the one that an offset leads to, else 0.
+unfoldable pub shownAt : List ℕ → ℕ → ℕ → ℕ
+shownAt voxels offset i = bit (showsAt voxels offset i)
+
+-- How many voxels of a row do, from its length and its first index.
+unfoldable pub rowShown : List ℕ → ℕ → ℕ → ℕ → ℕ
+rowShown voxels offset wide i = total (shownAt voxels offset) 1 i wide
+
+-- How many of so many rows, a stride apart.
+unfoldable pub sliceShown : List ℕ → ℕ → ℕ → ℕ → ℕ → ℕ → ℕ
+sliceShown voxels offset wide d high i = total (rowShown voxels offset wide) d i high
+
+-- How many of so many slices, a stride apart.
+unfoldable pub slicesShown : List ℕ → ℕ → ℕ → ℕ → ℕ → ℕ → ℕ → ℕ → ℕ
+slicesShown voxels offset wide d high e deep i = total (sliceShown voxels offset wide d high) e i deep
+
+-- ---- where the loops list: a run of quads for each face, the runs apart from each other
+
+-- Quads written from a place on, as far as there is room.
+unfoldable pub laidRun : List ℕ → ℕ → List Point → List ℕ
+laidRun out at quads = pushedAll unitNumbers numbersOf (output out at) quads .out
+
+-- The runs of the first so many faces, one after another: face f's quads `quads f` from the place `at f` on.
+unfoldable pub laidRuns : List ℕ → (ℕ → ℕ) → (ℕ → List Point) → ℕ → List ℕ
+laidRuns out at quads zero = out
+laidRuns out at quads (suc f) = laidRun (laidRuns out at quads f) (at f) (quads f)
+
 -- ---- what the loops ask for
 
 -- An ample bound on how many quads are listed: a call lists at most six times as many as a shape has voxels.
 abbrev pub mostListed : ℕ
 mostListed = 16 * mostVoxels
+
+-- Six offsets, one a face, and what holds of each.
+pub record Kernel (offsets : List ℕ) (holds : ℕ → Type 0) : Type 0 where
+  pub all : length offsets ≡ 6
+  pub each : (f : ℕ) → f < 6 → holds (getD offsets f 0)
+
+-- Six numbers, one a face, each of which can grow by so many.
+pub record Room (numbers : List ℕ) (most : ℕ) : Type 0 where
+  pub all : length numbers ≡ 6
+  pub each : (f : ℕ) → f < 6 → getD numbers f 0 + most ≤ mostListed
+
+-- No voxel of so many from an index on is bad.
+abbrev pub Sound : List ℕ → ℕ → ℕ → Type 0
+Sound voxels i n = (k : ℕ) → k < n → class (getD voxels (i + k) 0) ≤ 2
+
+-- No voxel of so many rows is, nor, where the rows are two voxels apart, of those between them.
+pub record SliceSound (voxels : List ℕ) (i wide d high : ℕ) : Type 0 where
+  pub each : (k : ℕ) → k < high → Sound voxels (i + k * d) wide
+  pub between : d ≡ wide + 2 → (k : ℕ) → suc k < high → Sound voxels (i + k * d + wide) 2
+
+-- So of so many slices.
+abbrev pub SlicesSound : List ℕ → ℕ → ℕ → ℕ → ℕ → ℕ → ℕ → Type 0
+SlicesSound voxels i wide d high e deep = (k : ℕ) → k < deep → SliceSound voxels (i + k * e) wide d high
+
+-- Each face's run of quads ends before the next face's begins.
+abbrev pub Apart : List ℕ → List ℕ → (ℕ → List Point) → Type 0
+Apart cursors offsets quads = (f : ℕ) → suc f < 6 → getD cursors f 0 + length (quads (getD offsets f 0)) ≤ getD cursors (suc f) 0
 
 -- The voxels of two rows were lent, and a row is short enough to be counted.
 pub record Beside (lent i j wide : ℕ) : Type 0 where
@@ -78,6 +139,16 @@ pub record SlicesReady (lent offset i wide d high e deep : ℕ) : Type 0 where
 pub record Made (rule : Output) (most : ℕ) (out : List ℕ) (listed : ℕ) : Type 0 where
   pub is : output out listed ≡ rule
   pub bound : listed ≤ most
+
+-- Six numbers grew, each by what `more` says of its face's offset.
+pub record Counted (offsets was now : List ℕ) (more : ℕ → ℕ) : Type 0 where
+  pub each : (f : ℕ) → f < 6 → getD now f 0 ≡ getD was f 0 + more (getD offsets f 0)
+  pub all : length now ≡ 6
+
+-- Each face's quads were written from its cursor on, and the cursor moved past them.
+pub record Listed (offsets was cursors : List ℕ) (quads : ℕ → List Point) (out now : List ℕ) : Type 0 where
+  pub is : out ≡ laidRuns was (λ (f : ℕ). getD cursors f 0) (λ (f : ℕ). quads (getD offsets f 0)) 6
+  pub moved : Counted offsets cursors now (λ (o : ℕ). length (quads o))
 
 -- The outcome of what laying leaves.
 abbrev pub laidOutcome : Laid → UnitOutcome

@@ -25,6 +25,7 @@ use Rattle.voxels.proofs.index.Stride.visibility_offset.Reads as Stride
 use Rattle.voxels.proofs.index.VoxelIndex.linearize.Reads as VoxelIndex-linearize
 use Rattle.voxels.proofs.index.VoxelIndex.offset.Reads as VoxelIndex-offset
 use Rattle.voxels.proofs.voxel.class.Reads as class
+use Rattle.voxels.proofs.voxel.sight.Reads as sight
 use Rattle.voxels.proofs.voxel.merge_value.Reads as merge-value
 use Rattle.voxels.proofs.voxel.shows_face.Reads as shows-face
 use Rattle.voxels.proofs.voxel.uniform.Reads as uniform
@@ -95,6 +96,9 @@ Stride-visibility-offset-unique κs a r r′ s s′ p q = stride-one r r′ (p �
 
 pub class-unique : One class.Post
 class-unique κs a r r′ s s′ p q = p ∙ sym q
+
+pub sight-unique : One sight.Post
+sight-unique κs a r r′ s s′ p q = p ∙ sym q
 
 pub merge-value-unique : One merge-value.Post
 merge-value-unique κs a r r′ s s′ p q = p ∙ sym q

@@ -1,6 +1,7 @@
 // A voxel's number: its class, its merge value, and whether it shows its face to a neighbour, after
 // `VoxelVisibility` of lib.rs and `MergeVoxel` of greedy.rs.
 ghost use mathlib.Core.Path.{_≡_};
+ghost use Prim.Native.Nat.{_*_};
 ghost use Rattle.voxels.specs.Voxel as rule;
 
 // The classes.
@@ -27,6 +28,14 @@ pub fn merge_value(voxel: u16) -> u16
     ensures { λ r. ⌜ r ≡ rule.mergeValue voxel ⌝ }
 {
     voxel % MERGE_VALUES
+}
+
+// What a neighbor's number must be below for a voxel to show its face to it, if the voxel is not bad:
+// where its class begins.
+pub fn sight(voxel: u16) -> u16
+    ensures { λ r. ⌜ r ≡ rule.class voxel * rule.mergeValues ⌝ }
+{
+    class(voxel) * MERGE_VALUES
 }
 
 // Whether a voxel shows its face to its neighbor: it is not empty, and the neighbor is empty, or is
