@@ -1,21 +1,26 @@
 -- Refusal 8 as its reader has it: its place is the lowest index of a bad voxel in the box, and where it is not given no voxel of the box is bad.
 use mathlib.Core.Bool.{Bool, true, false, false≢true}
 use mathlib.Core.List.{List, [], _∷_, _++_, map}
-use mathlib.Core.Path.{_≡_, sym, _∙_, ap}
-use Prim.Native.Nat.{ℕ, zero, suc, _+_, _-_, _*_, _≤_}
+use mathlib.Core.Path.{_≡_, refl, sym, _∙_, ap}
+use Prim.Native.Nat.{ℕ, zero, suc, _+_, _-_, _*_, _≤_, _<_}
 use native.Mathlib.Nat.{suc-mul, mul-one, mul-comm, mul-le-mul-right}
 use native.Mathlib.Omega.{arith}
+use lib.ListN.{getD}
+use borrow.Author.Tests.{eqb-false}
 use Rattle.geometry.specs.declared.axis.Axis.the-variants.{X, Y, Z}
 use Rattle.geometry.specs.Point.{Point, along}
 use Rattle.geometry.specs.Refusal.{Answer, accepted, refused, Check, answer, checked}
 use Rattle.geometry.proofs.Refusals.{split, applies, passes, first-passes, rest-accepts}
+use Rattle.voxels.specs.Voxel.{class}
 use Rattle.voxels.specs.Shape.{index, stride, field}
-use Rattle.voxels.specs.Extent.{box, scan, every, Inside, Each}
+use Rattle.voxels.specs.Extent.{box, interior, scan, every, Inside, Each}
 use Rattle.voxels.specs.Checks.{badVoxelAt, badVoxels}
 use Rattle.voxels.specs.Statements.{LowestBad, NoneBad}
-use Rattle.voxels.specs.Inner.{Held, badAt, row, rows, slices}
+use Rattle.voxels.specs.Inner.{Held, SoundAround, badAt, row, rows, slices}
 use Rattle.voxels.proofs.Scan.{each-up, scan-inside, inside-scan}
+use Rattle.voxels.proofs.Voxels.{class-small}
 use Rattle.voxels.proofs.Held.{box-flat}
+use Rattle.voxels.proofs.Steps.{along-next}
 
 -- ---- refusals apart
 
@@ -156,3 +161,12 @@ module _ (shape : Point) (lent : ℕ) (min max : Point) (h : Held shape lent min
   pub none-bad : checked (badVoxels voxels shape min max) ≡ accepted tt → NoneBad shape min max voxels
   unfolding badVoxels field
   none-bad e = inside-scan _ (box min max) (none (λ (p : Point). badVoxelAt voxels (index shape p)) (scan (box min max)) e)
+
+  -- So, where voxels are numbers of 16 bits, every voxel of the box around the interior is of one of the other classes.
+  pub sound-around : checked (badVoxels voxels shape min max) ≡ accepted tt → ((i : ℕ) → getD voxels i 0 < 65_536) → SoundAround voxels shape (interior min max)
+  unfolding field
+  sound-around e small p around =
+      let lies : Inside (box min max) p = λ a. let near = around a in (omega (arith, along-next a min), omega (arith, along-next a max)) in
+      let v = getD voxels (index shape p) 0 in
+      let other = eqb-false (class v) 3 (none-bad e p lies) in
+      omega (arith, class-small v refl (small (index shape p)))

@@ -48,7 +48,7 @@ step-near true a b p = put-near a b (along a p + 1) p (omega arith) (omega arith
 step-near false a b p = put-near a b (along a p - 1) p (omega arith) (omega arith)
 
 -- One more on each axis.
-along-next : (b : Axis) (p : Point) → along b (at (p .x + 1) (p .y + 1) (p .z + 1)) ≡ along b p + 1
+pub along-next : (b : Axis) (p : Point) → along b (at (p .x + 1) (p .y + 1) (p .z + 1)) ≡ along b p + 1
 unfolding along
 along-next X p = refl
 along-next Y p = refl

@@ -4,12 +4,13 @@ use mathlib.Core.List.{List, [], _∷_, _++_, map}
 use mathlib.Core.Path.{_≡_}
 use Prim.Native.Nat.{ℕ, zero, suc, _+_, _*_, _≤_, _<_}
 use lib.Dec.{ltb}
-use lib.ListN.{length, set}
+use lib.ListN.{length, getD, set}
 use Rattle.geometry.specs.declared.axis.Axis.{Axis}
 use Rattle.geometry.specs.Point.{Point, along}
 use Rattle.geometry.specs.Refusal.{Check}
 use Rattle.voxels.specs.declared.extent.Extent.{Extent}
-use Rattle.voxels.specs.Shape.{size}
+use Rattle.voxels.specs.Voxel.{class}
+use Rattle.voxels.specs.Shape.{size, index}
 use Rattle.voxels.specs.Extent.{interior, every}
 use Rattle.voxels.specs.Checks.{badVoxelAt}
 use Rattle.voxels.specs.Listing.{joined, capacity}
@@ -36,6 +37,14 @@ pub record Entered (lent : ℕ) (shape : Point) (inner : Extent) : Type 0 where
   pub max : Point
   pub is : inner ≡ interior min max
   pub held : Held shape lent min max
+
+-- A point lies in the box around an interior, which is a voxel wider on each side.
+abbrev pub Around : Extent → Point → Type 0
+Around inner p = (a : Axis) → (along a (inner .minimum) ≤ along a p + 1) × (along a p ≤ along a (inner .bound))
+
+-- No voxel of the box around an interior is bad.
+abbrev pub SoundAround : List ℕ → Point → Extent → Type 0
+SoundAround voxels shape inner = (p : Point) → Around inner p → class (getD voxels (index shape p) 0) ≤ 2
 
 -- What `f` gives at each of a list, end to end.
 unfoldable pub gathered : {A B : Type 0} → (A → List B) → List A → List B
