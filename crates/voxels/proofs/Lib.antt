@@ -11,6 +11,8 @@ pub mod Orders
 pub mod Asked
 -- Of scan order, and loops over it.
 pub mod Scan
+-- Of rows, and the greatest voxel of one.
+pub mod Rows
 -- What checks 1 to 5 leave.
 pub mod Held
 -- What check 6 leaves.

@@ -76,6 +76,14 @@ slices g wide d high e deep i = every e i deep (rows g wide d high)
 abbrev pub badAt : List ℕ → ℕ → List Check
 badAt voxels i = badVoxelAt voxels i ∷ []
 
+-- No voxel of a row is greater than a number.
+abbrev pub AtMost : List ℕ → ℕ → ℕ → ℕ → Type 0
+AtMost voxels i wide most = (k : ℕ) → k < wide → getD voxels (i + k) 0 ≤ most
+
+-- The voxels of a row were lent.
+abbrev pub RowLent : ℕ → ℕ → ℕ → Type 0
+RowLent lent i wide = (k : ℕ) → k < wide → i + k < lent
+
 -- So many rows, a stride apart, lie among the voxels lent, and their indices fit.
 pub record RowsLent (lent i wide d high : ℕ) : Type 0 where
   pub each : (k : ℕ) → k < high → i + k * d + wide ≤ lent

@@ -13,7 +13,7 @@ ghost use Rattle.geometry.specs.Refusal.{checked, answer, follow, atPlace0};
 ghost use Rattle.voxels.specs.Shape.{size};
 ghost use Rattle.voxels.specs.Checks.{atPlace, badAxis, badShape, fewVoxels, minAboveMax, maxPastShape, minIsMax, badFaces, fewVisited, badVoxels, boundsChecks, boxChecks, unitChecks, greedyChecks};
 ghost use Rattle.voxels.specs.Answers.{entryCheckMeaning, entryMeaning, entry};
-ghost use Rattle.voxels.specs.Inner.{mostVoxels, Held, RowsLent, SlicesLent, badAt, row, rows, slices};
+ghost use Rattle.voxels.specs.Inner.{mostVoxels, Held, RowLent, RowsLent, SlicesLent, AtMost, badAt, row, rows, slices};
 use crate::extent::Extent;
 use crate::index::Stride;
 use crate::index::VoxelIndex;
@@ -178,9 +178,28 @@ pub fn check_visited_count(lent: usize, voxels_shape: UVec3) -> EntryCheck
     EntryCheck::Passed
 }
 
-// The first bad voxel of a row.
-fn check_row(voxels: &[u16], start: VoxelIndex, wide: u32) -> EntryCheck
-    requires { ⌜ start .0 + wide ≤ length (now voxels) ⌝ }
+// The greatest voxel of a row, or 0. The loop has no way out but its end, so that it is vectorized.
+fn greatest(voxels: &[u16], start: VoxelIndex, wide: u32) -> u16
+    requires { ⌜ RowLent (length (now voxels)) (start .0) wide ⌝ }
+    ensures { λ r. ⌜ AtMost (now (voxels .entry)) (start .0) wide r ⌝ }
+{
+    let i = start.0 as usize;
+    let n = wide as usize;
+    let mut most: u16 = 0;
+    let mut k: usize = 0;
+    while k < n {
+        let v = voxels[i + k];
+        k += 1;
+        if most < v {
+            most = v;
+        }
+    }
+    most
+}
+
+// The first bad voxel of a row, voxel by voxel.
+fn first_bad(voxels: &[u16], start: VoxelIndex, wide: u32) -> EntryCheck
+    requires { ⌜ RowLent (length (now voxels)) (start .0) wide ⌝ }
     ensures { λ r. ⌜ entryCheckMeaning r ≡ checked (row (badAt (now (voxels .entry))) wide (start .0)) ⌝ }
 {
     let mut i = start.0 as usize;
@@ -194,8 +213,21 @@ fn check_row(voxels: &[u16], start: VoxelIndex, wide: u32) -> EntryCheck
     EntryCheck::Passed
 }
 
-// The first bad voxel of rows that lie a stride apart.
-fn check_rows(
+// The first bad voxel of a row. Bad voxels have the greatest numbers: where the greatest voxel is not
+// bad, none is.
+fn check_row(voxels: &[u16], start: VoxelIndex, wide: u32) -> EntryCheck
+    requires { ⌜ RowLent (length (now voxels)) (start .0) wide ⌝ }
+    ensures { λ r. ⌜ entryCheckMeaning r ≡ checked (row (badAt (now (voxels .entry))) wide (start .0)) ⌝ }
+{
+    let most = greatest(voxels, start, wide);
+    if voxel::class(most) < voxel::BAD {
+        return EntryCheck::Passed;
+    }
+    first_bad(voxels, start, wide)
+}
+
+// The first bad voxel of rows that lie a stride apart, row by row.
+fn check_each_row(
     voxels: &[u16],
     start: VoxelIndex,
     wide: u32,
@@ -219,6 +251,23 @@ fn check_rows(
         i += step;
     }
     EntryCheck::Passed
+}
+
+// The first bad voxel of rows that lie a stride apart. Rows that touch are one row.
+fn check_rows(
+    voxels: &[u16],
+    start: VoxelIndex,
+    wide: u32,
+    y_stride: Stride,
+    high: u32,
+) -> EntryCheck
+    requires { ⌜ RowsLent (length (now voxels)) (start .0) wide («y_stride» .0) high ⌝ }
+    ensures { λ r. ⌜ entryCheckMeaning r ≡ checked (rows (badAt (now (voxels .entry))) wide («y_stride» .0) high (start .0)) ⌝ }
+{
+    if wide == y_stride.0 {
+        return check_row(voxels, start, wide * high);
+    }
+    check_each_row(voxels, start, wide, y_stride, high)
 }
 
 // The first bad voxel of slices that lie a stride apart.

@@ -1,76 +1,27 @@
--- `check_row` meets its contract: the voxels that are left decide as the whole row does.
+-- `check_row` meets its contract: where the greatest voxel is not bad, none is.
 use borrow.Author.Needs.{needs}
-use mathlib.Core.Path.{_≡_}
-use Prim.Native.Nat.{_-_, _≤_}
-use native.Mathlib.Nat.{add-sub-cancel-left}
-use native.Mathlib.Omega.{arith}
-use lib.ListN.{length}
-use Rattle.geometry.specs.Refusal.{checked}
-use Rattle.voxels.specs.Extent.{every}
-use Rattle.voxels.specs.Inner.{badAt, row}
-use Rattle.voxels.proofs.Asked.{ask-on, ask-stops, ask-done, good-here, bad-here}
+use mathlib.Core.Path.{sym}
+use Rattle.voxels.proofs.Rows.{low-passes}
 use Rattle.voxels.proofs.bounds.check_row.Statement.{statement}
 use Rattle.voxels.proofs.bounds.check_row.Tie as tie
 
-abbrev Inv-loop : tie.InvT-loop
-Inv-loop voxels wide i₀ end i = (i ≤ end) × (end ≤ length voxels) × (checked (every 1 i (end - i) (badAt voxels)) ≡ checked (row (badAt voxels) wide i₀))
+greatest-requires : tie.Need-greatest-requires
+greatest-requires c κs = search needs
 
-abbrev μ-loop : tie.MeasureT-loop
-μ-loop voxels wide i₀ end i = end - i
-
-cast-i : tie.Need-cast-i Inv-loop μ-loop
-cast-i c = search needs
-
-add-end : tie.Need-add-end Inv-loop μ-loop
-add-end c = search needs
-
-loop-holds : tie.Need-loop-holds Inv-loop μ-loop
-unfolding row
-loop-holds c = let s = c .before .before .args in (omega arith, c .before .before .pre, rw (add-sub-cancel-left (s .start .0) (s .wide)))
-
-mul-class : tie.Need-mul-class Inv-loop μ-loop
-mul-class c = search needs
-
-shared-slice-read-class : tie.Need-shared-slice-read-class Inv-loop μ-loop
-shared-slice-read-class c = omega arith
-
-class-requires : tie.Need-class-requires Inv-loop μ-loop
+class-requires : tie.Need-class-requires
 class-requires c κs = search needs
 
-returns : tie.Need-returns Inv-loop μ-loop
+returns : tie.Need-returns
 returns c =
-    let vs = c .before .before .before .before .before .before .before .args .voxels .now in
-    ask-stops 1 (badAt vs) _ _ _ (c .before .before .before .before .loop .inv .2) (c .before .before .before .loop-test .taken) (bad-here vs _ (c .before .class .ensures) (c .if1 .taken))
+    let s = c .before .before .before .before .args in
+    sym (low-passes (s .voxels .now) _ _ (s .start .0) (c .before .class .ensures) (c .if1 .taken) (c .before .before .greatest .ensures))
 
-add-i : tie.Need-add-i Inv-loop μ-loop
-add-i c = omega arith
+first-bad-requires : tie.Need-first-bad-requires
+first-bad-requires c κs = search needs
 
-loop-less : tie.Need-loop-less Inv-loop μ-loop
-loop-less c = omega arith
-
-loop-again : tie.Need-loop-again Inv-loop μ-loop
-loop-again c =
-    let vs = c .before .before .before .before .before .before .before .args .voxels .now in
-    let kept = c .before .before .before .before .loop .inv in
-    (omega arith, kept .1, ask-on 1 (badAt vs) _ _ _ (kept .2) (c .before .before .before .loop-test .taken) (good-here vs _ (c .before .class .ensures) (c .if1 .left)))
-
-returns-2 : tie.Need-returns-2 Inv-loop μ-loop
-returns-2 c = ask-done 1 (badAt (c .before .before .before .before .args .voxels .now)) _ _ _ (c .before .loop .inv .2) (omega arith)
+returns-2 : tie.Need-returns-2
+returns-2 c = search needs
 
 pub check-row-spec : {M : Type 1} → statement M
 check-row-spec =
-    tie.close
-    (tie.spec
-    Inv-loop
-    μ-loop
-    cast-i
-    add-end
-    loop-holds
-    mul-class
-    shared-slice-read-class
-    class-requires
-    returns
-    add-i
-    loop-less
-    loop-again
-    returns-2)
+    tie.close (tie.spec greatest-requires class-requires returns first-bad-requires returns-2)
