@@ -5,6 +5,8 @@ pub mod Table
 pub mod Walks
 -- Of loops that mark and scan, by indices.
 pub mod Loops
+-- Of voxels that need no mesh, in a loop that passes them.
+pub mod Passing
 -- Of steps along a face's u and v.
 pub mod Spread
 -- Of sums over lists, and how many points an extent has.

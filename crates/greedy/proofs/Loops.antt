@@ -1,7 +1,7 @@
 -- Loops over a coordinate and an index a stride apart: what is done and what is left make the whole. And what a scanned voxel leaves.
 use mathlib.Core.Bool.{Bool, true, false}
 use mathlib.Core.List.{List, _++_}
-use mathlib.Core.Path.{_≡_, refl, sym, _∙_, ap}
+use mathlib.Core.Path.{_≡_, refl, _∙_, ap}
 use Prim.Native.Nat.{ℕ, zero, suc, _+_, _-_, _*_, _≤_, _<_}
 use native.Mathlib.Nat.{add-zero, add-assoc, sub-zero, zero-mul, suc-mul, mul-le-mul-right}
 use native.Mathlib.Omega.{arith}
@@ -135,16 +135,15 @@ module _ (vs marks out : List ℕ) (c : FaceScan) (p : Point) (i n t : ℕ) wher
         bound = omega (arith, picked-tests vs marks c p i ready is);
       }
 
-  module _ {r : Bool} (is : r ≡ needsAt vs marks (c .«visibility_offset» .0) i) where
-    -- A voxel that needs no mesh is only tested,
-    pub scanned-none : r ≡ false → n ≤ t → Made (scannedAt vs c (progress marks out n t) p i) (t + voxelTests) marks out n (t + 1)
-    unfolding scannedAt
-    scanned-none e few = record { is = rw (sym is ∙ e, scannedAt); few = omega arith; bound = omega arith }
+  -- A voxel that needs no mesh is only tested,
+  pub scanned-none : needsAt vs marks (c .«visibility_offset» .0) i ≡ false → n ≤ t → Made (scannedAt vs c (progress marks out n t) p i) (t + voxelTests) marks out n (t + 1)
+  unfolding scannedAt
+  scanned-none e few = record { is = rw (e, scannedAt); few = omega arith; bound = omega arith }
 
-    -- and of another the rectangle is laid.
-    pub scanned-laid : r ≡ true → {m n′ t′ : ℕ} {marks′ out′ : List ℕ} → Made (laidAt vs c (progress marks out n t) p i) m marks′ out′ n′ t′ → Made (scannedAt vs c (progress marks out n t) p i) m marks′ out′ n′ t′
-    unfolding scannedAt
-    scanned-laid e made = record { is = rw (sym is ∙ e, scannedAt) (made .is); few = made .few; bound = made .bound }
+  -- and of another the rectangle is laid.
+  pub scanned-laid : needsAt vs marks (c .«visibility_offset» .0) i ≡ true → {m n′ t′ : ℕ} {marks′ out′ : List ℕ} → Made (laidAt vs c (progress marks out n t) p i) m marks′ out′ n′ t′ → Made (scannedAt vs c (progress marks out n t) p i) m marks′ out′ n′ t′
+  unfolding scannedAt
+  scanned-laid e made = record { is = rw (e, scannedAt) (made .is); few = made .few; bound = made .bound }
 
 -- ---- a scan underway
 
@@ -172,7 +171,14 @@ module _ {act : Scanned → ℕ → ℕ → Scanned} {most d a i n : ℕ} {marks
       }
 
   module _ {marks out : List ℕ} {listed tests k j : ℕ} (l : Underway act most d a i n marks₀ out₀ n₀ t₀ marks out listed tests k j) where
-    -- The tests of one more turn fit,
+    -- Its tests and its index fit;
+    pub scan-tests : {all : ℕ} → t₀ + n * most ≤ all → tests ≤ all
+    scan-tests fits = omega (arith, l .bound, mul-le-mul-right {m = k} {n = n} most (l .within))
+
+    pub scan-index : {all : ℕ} → i + n * d ≤ all → j ≤ all
+    scan-index fits = omega (arith, l .place, mul-le-mul-right {m = k} {n = n} d (l .within))
+
+    -- the tests of one more turn do,
     pub scan-room : k < n → {all : ℕ} → t₀ + n * most ≤ all → tests + most ≤ all
     scan-room h fits = omega (arith, below-last t₀ k n most (t₀ + k * most) h refl, l .bound)
 

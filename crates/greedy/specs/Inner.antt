@@ -76,6 +76,12 @@ pub record RowReady (voxels marks offset i d most : ℕ) : Type 0 where
   pub each : (k : ℕ) → k < most → Touches voxels marks offset (i + k * d)
   pub last : i + most * d ≤ 2 * mostVoxels
 
+-- So many voxels from an index on, a stride apart, need no mesh, and the one after them does, unless they are as many as were asked for.
+pub record Idle (voxels marks : List ℕ) (offset i d most got : ℕ) : Type 0 where
+  pub within : got ≤ most
+  pub passed : (k : ℕ) → k < got → needsAt voxels marks offset (i + k * d) ≡ false
+  pub stopped : got < most → needsAt voxels marks offset (i + got * d) ≡ true
+
 -- A row walk by indices, a stride apart.
 unfoldable pub rowAt : List ℕ → List ℕ → ℕ → ℕ → ℕ → ℕ → ℕ → Walked
 rowAt voxels marks offset first d most i = walked (joinsAt voxels marks offset first) (stepBy d) i most

@@ -3,7 +3,8 @@
 //
 // A face is meshed at a time, slice by slice along n, and a slice in scan order. The marks are a byte
 // a voxel. Strides and offsets are computed once a face, and a voxel's index is the one before it
-// and a stride.
+// and a stride. A row passes the voxels that need no mesh in a loop of its own, which carries no more
+// than their test takes.
 ghost use mathlib.Core.Path.{_≡_};
 ghost use Prim.Native.Nat.{_+_, _*_, _<_, _≤_};
 ghost use lib.ListN.{length, replicate};
@@ -12,7 +13,7 @@ ghost use Rattle.voxels.specs.Shape as shape;
 ghost use Rattle.voxels.specs.Listing as listing;
 ghost use Rattle.voxels.specs.Inner.{mostVoxels, output, pushed};
 ghost use Rattle.greedy.specs.Greedy.{quadNumbers, numbersOf, listed, greedyGroup, greedyGroups, greedyTests, greedyAnswer, outcome, greedyQuads};
-ghost use Rattle.greedy.specs.Inner.{Touches, needsAt, SpotReady, RowScan, SliceScan, SlicesScan, voxelTests, ampleTests, Made, MadeFace, MadeFaces, Accepted, progress, laidAt, scannedAt, rowAlong, sliceAlong, slicesAlong, spot, laidOutcome};
+ghost use Rattle.greedy.specs.Inner.{Touches, needsAt, RowReady, Idle, SpotReady, RowScan, SliceScan, SlicesScan, voxelTests, ampleTests, Made, MadeFace, MadeFaces, Accepted, progress, laidAt, rowAlong, sliceAlong, slicesAlong, laidOutcome};
 
 mod face_scan;
 mod merge_strategy;
@@ -143,35 +144,32 @@ fn lay_quad(
     Progress { listed, tests }
 }
 
-// Scans a voxel: tests it, and lays its quad where it needs a mesh.
-fn scan_voxel(
+// How many voxels from `start` on, `delta` apart, need no mesh before one does; at most `most`.
+fn idle(
     voxels: &[u16],
-    visited: &mut [u8],
-    out: &mut [u32],
-    capacity: usize,
-    before: Progress,
-    scan: FaceScan,
-    slice: u32,
-    row: u32,
-    place: u32,
-    index: VoxelIndex,
-) -> Progress
-    requires { ⌜ (capacity ≡ listing.capacity quadNumbers (length (now out))) × (before .listed ≤ before .tests) × (before .tests + voxelTests ≤ ampleTests) ⌝ }
-    requires { ⌜ SpotReady (length (now voxels)) (length (now visited)) scan (spot (scan .axes .n) slice row place) (index .0) ⌝ }
-    ensures { λ r. ⌜ Made (scannedAt (now (voxels .entry)) scan (progress (now (visited .entry)) (now (out .entry)) (before .listed) (before .tests)) (spot (scan .axes .n) slice row place) (index .0)) (before .tests + voxelTests) (now (visited .exit)) (now (out .exit)) (r .listed) (r .tests) ⌝ }
+    visited: &[u8],
+    visibility_offset: Stride,
+    start: VoxelIndex,
+    delta: Stride,
+    most: u32,
+) -> u32
+    requires { ⌜ RowReady (length (now voxels)) (length (now visited)) («visibility_offset» .0) (start .0) (delta .0) most ⌝ }
+    ensures { λ r. ⌜ Idle (now (voxels .entry)) (now (visited .entry)) («visibility_offset» .0) (start .0) (delta .0) most r ⌝ }
 {
-    if !face_needs_mesh(voxels, visited, index, scan.visibility_offset) {
-        let listed = before.listed;
-        let tests = before.tests + 1;
-        return Progress { listed, tests };
+    let step = delta.0;
+    let mut k: u32 = 0;
+    let mut i = start.0;
+    while k < most {
+        if face_needs_mesh(voxels, visited, VoxelIndex(i), visibility_offset) {
+            return k;
+        }
+        k += 1;
+        i += step;
     }
-    let axes = scan.axes;
-    let n = axes.n;
-    let minimum = face_scan::spot(n, slice, row, place);
-    lay_quad(voxels, visited, out, capacity, before, scan, minimum, index)
+    k
 }
 
-// Scans a row of a slice.
+// Scans a row of a slice: passes the voxels that need no mesh, and lays the quad of each that does.
 fn scan_row(
     voxels: &[u16],
     visited: &mut [u8],
@@ -196,16 +194,31 @@ fn scan_row(
     let mut k: u32 = 0;
     let mut i = start.0;
     while k < count {
-        let after = scan_voxel(
+        let passed = idle(
+            voxels,
+            visited,
+            scan.visibility_offset,
+            VoxelIndex(i),
+            span.stride,
+            count - k,
+        );
+        tests += passed as u64;
+        k += passed;
+        i += passed * step;
+        if k == count {
+            return Progress { listed, tests };
+        }
+        let axes = scan.axes;
+        let n = axes.n;
+        let minimum = face_scan::spot(n, slice, row, from + k);
+        let after = lay_quad(
             voxels,
             visited,
             out,
             capacity,
             Progress { listed, tests },
             scan,
-            slice,
-            row,
-            from + k,
+            minimum,
             VoxelIndex(i),
         );
         listed = after.listed;
