@@ -3,7 +3,7 @@ use mathlib.Core.Bool.{Bool}
 use mathlib.Core.List.{List}
 use mathlib.Core.Path.{_≡_, refl, sym, _∙_, ap}
 use Prim.Native.Nat.{ℕ, _+_, _-_, _*_, _%_, _≤_, _<_}
-use native.Mathlib.Nat.{add-zero, mul-one, mul-comm, mul-le-mul-right, zero-mul}
+use native.Mathlib.Nat.{add-zero, mul-one, mul-comm, mul-le-mul, mul-le-mul-left, mul-le-mul-right, zero-mul}
 use native.Mathlib.Omega.{arith}
 use Rattle.geometry.specs.declared.axis.Axis.{Axis}
 use Rattle.geometry.specs.declared.axis.Axis.the-variants.{X, Y, Z}
@@ -97,6 +97,14 @@ module _ (shape : Point) (lent : ℕ) (min max : Point) (h : Held shape lent min
   pub few-slices : deep * stride shape Z ≤ mostVoxels
   few-slices = omega (arith, h .small, zero-mul (stride shape Y), at-below 0 0 deep (omega arith) (omega arith) (omega arith))
 
+  -- The interior has no more voxels than the shape.
+  pub few-voxels : deep * (high * wide) ≤ mostVoxels
+  unfolding along stride
+  few-voxels =
+      let slice : high * wide ≤ shape .x * shape .y =
+      omega (arith, mul-comm (shape .x) (shape .y), mul-le-mul {n₁ = high} {m₁ = wide} {n₂ = shape .y} {m₂ = shape .x} (omega (arith, h .spans Y, h .within Y)) (omega (arith, h .spans X, h .within X))) in
+      omega (arith, few-slices, mul-le-mul-left {m = high * wide} {n = shape .x * shape .y} deep slice)
+
   -- ---- the group
 
   module _ (vs : List ℕ) (f : OrientedBlockFace) (side : positive (f .«n_sign») ≡ up) (normal : nAxis f ≡ n) where
@@ -128,6 +136,7 @@ pub record FaceReady (lent : ℕ) (shape : Point) (inner : Extent) (f : Oriented
   pub group : unitGroup inner (field shape vs) f
       ≡ slicesQuads vs off (inner .minimum .x) (inner .bound .x - inner .minimum .x) (inner .minimum .y) d (inner .bound .y - inner .minimum .y) (inner .minimum .z) e (inner .bound .z - inner .minimum .z) i
   pub few : (inner .bound .z - inner .minimum .z) * e ≤ mostVoxels
+  pub few-in : (inner .bound .z - inner .minimum .z) * ((inner .bound .y - inner .minimum .y) * (inner .bound .x - inner .minimum .x)) ≤ mostVoxels
 
 module _ (lent : ℕ) (shape : Point) (inner : Extent) (entered : Entered lent shape inner) where
   pub face-ready : (f : OrientedBlockFace) (vs : List ℕ) (off ns i d e : ℕ)
@@ -145,4 +154,5 @@ module _ (lent : ℕ) (shape : Point) (inner : Extent) (entered : Entered lent s
         ready = slices-ready shape lent lo hi h (positive (f .«n_sign»)) (nAxis f);
         group = flat-group shape lent lo hi h (positive (f .«n_sign»)) (nAxis f) vs f refl refl;
         few = few-slices shape lent lo hi h (positive (f .«n_sign»)) (nAxis f);
+        few-in = few-voxels shape lent lo hi h (positive (f .«n_sign»)) (nAxis f);
       })

@@ -1,10 +1,26 @@
 -- Laws. A function's own proof stands in the folder named after it.
--- Of counting a row.
+-- Of counting a run.
 pub mod Counted
--- Of loops that list quads.
-pub mod Loops
+-- Of sums over indices, and how many quads are listed.
+pub mod Totals
+-- Of loops that count.
+pub mod Counting
+-- Of a slice as one run.
+pub mod Flat
+-- Of runs of quads, one for each face.
+pub mod Runs
+-- Of listing from six cursors.
+pub mod Cursors
 -- Of a face's group, by indices.
 pub mod Faces
+-- Of six numbers, one a face.
+pub mod Sixes
+-- That no voxel that is read is bad.
+pub mod Soundness
+-- From the loops to the groups.
+pub mod Whole
+-- From the groups to the answer.
+pub mod Laid
 -- From the entry to the whole outcome.
 pub mod Outcome
 -- What its reader is told.

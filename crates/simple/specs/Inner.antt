@@ -1,18 +1,24 @@
 -- What private functions require and promise. No public contract uses these.
 use mathlib.Core.Bool.{Bool}
-use mathlib.Core.List.{List, map}
+use mathlib.Core.List.{List}
 use mathlib.Core.Path.{_≡_}
-use Prim.Native.Nat.{ℕ, zero, suc, _+_, _*_, _≤_, _<_}
+use Prim.Native.Nat.{ℕ, zero, suc, _+_, _-_, _*_, _%_, _≤_, _<_}
+use lib.IntN.{pos}
 use lib.ListN.{length, getD}
+use Rattle.geometry.specs.declared.axis.AxisPermutation.the-variants.{Xyz}
+use Rattle.geometry.specs.declared.face.OrientedBlockFace.{OrientedBlockFace}
 use Rattle.geometry.specs.Point.{Point, at}
-use Rattle.geometry.specs.Axes.{bit}
-use Rattle.voxels.specs.declared.extent.Extent.{Extent}
+use Rattle.geometry.specs.Axes.{bit, positive, nAxis}
 use Rattle.voxels.specs.Voxel.{class, shows}
-use Rattle.voxels.specs.Extent.{interior}
-use Rattle.voxels.specs.Listing.{joined, Laid}
-use Rattle.voxels.specs.Visible.{modulus, offsetIndex}
-use Rattle.voxels.specs.Inner.{mostVoxels, longest, Held, keptIf, inStep, Output, output, pushedAll}
+use Rattle.voxels.specs.Listing.{Laid}
+use Rattle.voxels.specs.Shape.{stride}
+use Rattle.voxels.specs.Visible.{modulus, visibilityOffset, offsetIndex}
+use Rattle.voxels.specs.Inner.{mostVoxels, longest, keptIf, inStep, output, pushedAll}
 use Rattle.simple.specs.Unit.{unitNumbers, numbersOf, unitAnswer, UnitOutcome, outcome}
+
+-- What stands past the end of a list of faces.
+abbrev pub noFace : OrientedBlockFace
+noFace = record { «n_sign» = pos 0; permutation = Xyz }
 
 -- ---- what the loops list, by indices and coordinates
 
@@ -104,6 +110,28 @@ pub record SliceSound (voxels : List ℕ) (i wide d high : ℕ) : Type 0 where
 abbrev pub SlicesSound : List ℕ → ℕ → ℕ → ℕ → ℕ → ℕ → ℕ → Type 0
 SlicesSound voxels i wide d high e deep = (k : ℕ) → k < deep → SliceSound voxels (i + k * e) wide d high
 
+-- What leads from a voxel to the one that shares its face, as the code computes it.
+unfoldable pub kernelStride : Point → OrientedBlockFace → ℕ
+kernelStride shape f = visibilityOffset (positive (f .«n_sign»)) (stride shape (nAxis f) % modulus)
+
+-- Where a face's run begins: after the quads of the faces before it.
+unfoldable pub startOf : List ℕ → ℕ → ℕ
+startOf counts zero = 0
+startOf counts (suc f) = startOf counts f + getD counts f 0
+
+-- A slice of rows two voxels apart, and how long the run is from its first voxel to its last: short enough to be counted.
+pub record Flat (wide d high long : ℕ) : Type 0 where
+  pub apart : d ≡ wide + 2
+  pub wide-some : 0 < wide
+  pub high-some : 0 < high
+  pub is : long ≡ (high - 1) * d + wide
+  pub short : long ≤ longest
+
+-- Six numbers, one a face, each at most what `most` says of its face's offset.
+pub record Within (offsets numbers : List ℕ) (most : ℕ → ℕ) : Type 0 where
+  pub all : length numbers ≡ 6
+  pub each : (f : ℕ) → f < 6 → getD numbers f 0 ≤ most (getD offsets f 0)
+
 -- Each face's run of quads ends before the next face's begins.
 abbrev pub Apart : List ℕ → List ℕ → (ℕ → List Point) → Type 0
 Apart cursors offsets quads = (f : ℕ) → suc f < 6 → getD cursors f 0 + length (quads (getD offsets f 0)) ≤ getD cursors (suc f) 0
@@ -118,7 +146,7 @@ pub record Beside (lent i j wide : ℕ) : Type 0 where
 pub record RowReady (lent offset i wide : ℕ) : Type 0 where
   pub here : (k : ℕ) → k < wide → i + k < lent
   pub beyond : (k : ℕ) → k < wide → offsetIndex (i + k) offset < lent
-  pub near : 0 < wide → offsetIndex i offset + wide < modulus
+  pub near : 0 < wide → offsetIndex i offset + wide ≤ 2 * mostVoxels
   pub short : wide ≤ longest
 
 -- So of so many rows, a stride apart that is not shorter than a row.
@@ -135,14 +163,25 @@ pub record SlicesReady (lent offset i wide d high e deep : ℕ) : Type 0 where
 
 -- ---- what they promise
 
--- The buffer and the number listed are what a rule says, and the number is at most so many.
-pub record Made (rule : Output) (most : ℕ) (out : List ℕ) (listed : ℕ) : Type 0 where
-  pub is : output out listed ≡ rule
-  pub bound : listed ≤ most
-
 -- Six numbers grew, each by what `more` says of its face's offset.
 pub record Counted (offsets was now : List ℕ) (more : ℕ → ℕ) : Type 0 where
   pub each : (f : ℕ) → f < 6 → getD now f 0 ≡ getD was f 0 + more (getD offsets f 0)
+  pub all : length now ≡ 6
+
+-- Six offsets are those of six faces.
+pub record KernelOf (shape : Point) (faces : List OrientedBlockFace) (offsets : List ℕ) : Type 0 where
+  pub all : length offsets ≡ 6
+  pub each : (f : ℕ) → f < 6 → getD offsets f 0 ≡ kernelStride shape (getD faces f noFace)
+
+-- Six cursors stand where the runs of so many quads begin, and the last run ends at a number.
+pub record Starts (counts cursors : List ℕ) (end : ℕ) : Type 0 where
+  pub all : length cursors ≡ 6
+  pub each : (f : ℕ) → f < 6 → getD cursors f 0 ≡ startOf counts f
+  pub last : end ≡ startOf counts 6
+
+-- Six numbers grew, each by what `more` says of its face's offset, less a number of its face.
+pub record CountedLess (offsets less was now : List ℕ) (more : ℕ → ℕ) : Type 0 where
+  pub each : (f : ℕ) → f < 6 → getD now f 0 ≡ getD was f 0 + (more (getD offsets f 0) - getD less f 0)
   pub all : length now ≡ 6
 
 -- Each face's quads were written from its cursor on, and the cursor moved past them.

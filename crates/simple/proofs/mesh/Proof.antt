@@ -2,7 +2,7 @@
 use borrow.Author.Needs.{needs}
 use mathlib.Core.Path.{refl}
 use Rattle.voxels.specs.Listing.{capacity}
-use Rattle.simple.proofs.Loops.{many-laid, all-fit}
+use Rattle.simple.proofs.Laid.{many-laid, all-fit}
 use Rattle.simple.proofs.mesh.Statement.{statement}
 use Rattle.simple.proofs.mesh.Tie as tie
 

@@ -1,105 +1,110 @@
--- `mesh_faces` meets its contract: the groups listed so far are those of the faces so far.
+-- `mesh_faces` meets its contract: what is counted are the groups' counts, and what is then listed, from where each group begins, are the groups.
 use borrow.Author.Needs.{needs}
-use mathlib.Core.List.{List, _++_, map}
-use mathlib.Core.Path.{_≡_, refl, _∙_, ap}
-use Prim.Native.Nat.{_+_, _-_, _*_, _≤_}
+use mathlib.Core.Path.{refl}
 use native.Mathlib.Omega.{arith}
-use lib.ListN.{length, take, replicate}
-use Rattle.geometry.specs.Point.{Point}
-use Rattle.voxels.proofs.Groups.{all-after, groups-next, counts-next, groups-done, counts-done}
-use Rattle.voxels.specs.Inner.{mostVoxels, output, pushedAll}
-use Rattle.voxels.specs.Listing.{joined}
-use Rattle.voxels.specs.Shape.{field}
-use Rattle.simple.specs.Unit.{unitNumbers, numbersOf, unitGroup, unitGroups}
-use Rattle.simple.proofs.Loops.{listed-all, noFace}
+use Rattle.geometry.specs.Point.{along}
+use Rattle.geometry.specs.declared.axis.Axis.the-variants.{X, Y, Z}
+use Rattle.voxels.proofs.Entered.{below, bound-small}
+use Rattle.simple.proofs.Counting.{zeros-room}
+use Rattle.simple.proofs.Whole.{all-ready, all-sound, few, counts-small, cursors-room, runs-apart, groups-made}
 use Rattle.simple.proofs.mesh_faces.Statement.{statement}
 use Rattle.simple.proofs.mesh_faces.Tie as tie
 
-abbrev Inv-loop : tie.InvT-loop
-Inv-loop voxels out₀ capacity voxels-shape interior faces counts₀ n₀ k₀ out counts n k =
-    (k ≤ 6) × (length faces ≡ 6) × (length out ≡ length out₀) × (n ≤ k * mostVoxels)
-    × (output out n ≡ listed-all (output out₀ 0) (joined (map (unitGroup interior (field voxels-shape voxels)) (take k faces))))
-    × (counts ≡ map length (map (unitGroup interior (field voxels-shape voxels)) (take k faces)) ++ replicate (6 - k) 0)
+slice-aggregate-kernel-strides : tie.Need-slice-aggregate-kernel-strides
+slice-aggregate-kernel-strides c = search needs
 
-abbrev μ-loop : tie.MeasureT-loop
-μ-loop voxels out₀ capacity voxels-shape interior faces counts₀ n₀ k₀ out counts n k = 6 - k
+kernel-strides-requires : tie.Need-kernel-strides-requires
+kernel-strides-requires c κs = search needs
 
-loop-holds : tie.Need-loop-holds Inv-loop μ-loop
-unfolding joined pushedAll
-loop-holds c = (search needs, c .before .before .good .1 .1 .1 .1 .1 .0 .1 .0 .1, refl, omega arith, refl, refl)
+new-requires : tie.Need-new-requires
+new-requires c κs = search needs
 
-mul-face : tie.Need-mul-face Inv-loop μ-loop
-mul-face c = search needs
+new-requires-2 : tie.Need-new-requires-2
+new-requires-2 c κs = search needs
 
-array-copy-out-face : tie.Need-array-copy-out-face Inv-loop μ-loop
-array-copy-out-face c = search needs
+linearize-requires : tie.Need-linearize-requires
+linearize-requires c κs = search needs
 
-mesh-face-requires : tie.Need-mesh-face-requires Inv-loop μ-loop
-mesh-face-requires c κs =
-    let l = c .before .before .before .loop in
-    let h = c .before .before .before .before .before .before .pre in
-    ((rw (l .inv .2) (h .0), omega arith), h .1)
+sub-wide : tie.Need-sub-wide
+unfolding along
+sub-wide c = below _ (c .before .before .before .before .before .before .before .before .before .before .before .before .args .voxels-shape) (c .before .before .before .before .before .before .before .before .before .before .before .before .args .interior) (c .before .before .before .before .before .before .before .before .before .before .before .before .pre .1 .0) X
 
-sub-counts : tie.Need-sub-counts Inv-loop μ-loop
-sub-counts c =
-    let more = all-after unitNumbers numbersOf _ _ _ _ _ (c .before .before .mesh-face .ensures .is) in
-    omega arith
+sub-high : tie.Need-sub-high
+unfolding along
+sub-high c = below _ (c .before .before .before .before .before .before .before .before .before .before .before .before .before .before .args .voxels-shape) (c .before .before .before .before .before .before .before .before .before .before .before .before .before .before .args .interior) (c .before .before .before .before .before .before .before .before .before .before .before .before .before .before .pre .1 .0) Y
 
-mul-counts : tie.Need-mul-counts Inv-loop μ-loop
-mul-counts c = search needs
+sub-deep : tie.Need-sub-deep
+unfolding along
+sub-deep c = below _ (c .before .before .before .before .before .before .before .before .before .before .before .before .before .before .before .before .args .voxels-shape) (c .before .before .before .before .before .before .before .before .before .before .before .before .before .before .before .before .args .interior) (c .before .before .before .before .before .before .before .before .before .before .before .before .before .before .before .before .pre .1 .0) Z
 
-array-write-counts : tie.Need-array-write-counts Inv-loop μ-loop
-array-write-counts c = search needs
+slice-aggregate-count-slices : tie.Need-slice-aggregate-count-slices
+slice-aggregate-count-slices c = search needs
 
-add-k : tie.Need-add-k Inv-loop μ-loop
-add-k c = search needs
+slice-aggregate-count-slices-2 : tie.Need-slice-aggregate-count-slices-2
+slice-aggregate-count-slices-2 c = search needs
 
-loop-less : tie.Need-loop-less Inv-loop μ-loop
-loop-less c = omega arith
+count-slices-requires : tie.Need-count-slices-requires
+count-slices-requires c κs =
+    let a = c .before .before .before .before .before .before .before .before .before .before .before .before .before .before .before .before .before .before .args in
+    let h = c .before .before .before .before .before .before .before .before .before .before .before .before .before .before .before .before .before .before .pre in
+    (all-ready _ (a .voxels-shape) (a .interior) (h .1 .0) (a .voxels .now) (a .faces) _ (c .before .before .before .before .before .before .before .before .before .before .before .before .before .before .kernel-strides .ensures) _ _ _ (c .before .before .before .before .before .before .before .before .linearize .ensures) (c .before .before .before .before .before .before .before .before .before .before .before .before .new .ensures) (c .before .before .before .before .before .before .before .before .before .before .before .new2 .ensures), (all-sound _ (a .voxels-shape) (a .interior) (h .1 .0) (a .voxels .now) (a .faces) _ (c .before .before .before .before .before .before .before .before .before .before .before .before .before .before .kernel-strides .ensures) _ _ _ (c .before .before .before .before .before .before .before .before .linearize .ensures) (c .before .before .before .before .before .before .before .before .before .before .before .before .new .ensures) (c .before .before .before .before .before .before .before .before .before .before .before .new2 .ensures) (h .1 .1), zeros-room (omega (arith, few _ (a .voxels-shape) (a .interior) (h .1 .0) (a .voxels .now) (a .faces) _ (c .before .before .before .before .before .before .before .before .before .before .before .before .before .before .kernel-strides .ensures) _ _ _ (c .before .before .before .before .before .before .before .before .linearize .ensures) (c .before .before .before .before .before .before .before .before .before .before .before .before .new .ensures) (c .before .before .before .before .before .before .before .before .before .before .before .new2 .ensures)))))
 
-loop-again : tie.Need-loop-again Inv-loop μ-loop
-loop-again c =
-    let a = c .before .before .before .before .before .before .before .before .before .args in
-    let l = c .before .before .before .before .before .before .loop in
-    let taken = c .before .before .before .before .before .loop-test .taken in
-    let made = c .before .before .mesh-face .ensures in
-    let more = all-after unitNumbers numbersOf _ _ _ _ _ (made .is) in (
-      omega arith,
-      l .inv .1,
-      c .before .before .mesh-face .kept .1 .0 ∙ l .inv .2,
-      omega arith,
-      groups-next unitNumbers numbersOf (unitGroup (a .interior) (field (a .voxels-shape) (a .voxels .now))) (a .t6) noFace (l .k) _ (omega arith) (l .inv .4) (made .is),
-      counts-next unitNumbers numbersOf (unitGroup (a .interior) (field (a .voxels-shape) (a .voxels .now))) (a .t6) noFace (l .k) 6 _ _ (l .inv .1) taken (l .inv .5) (omega arith),
-    )
+slice-aggregate-run-starts : tie.Need-slice-aggregate-run-starts
+slice-aggregate-run-starts c = search needs
 
-same-length : tie.Need-same-length Inv-loop μ-loop
-same-length c = c .before .loop .inv .2
+slice-aggregate-run-starts-2 : tie.Need-slice-aggregate-run-starts-2
+slice-aggregate-run-starts-2 c = search needs
 
-returns : tie.Need-returns Inv-loop μ-loop
-unfolding unitGroups
+run-starts-requires : tie.Need-run-starts-requires
+run-starts-requires c κs =
+    let a = c .before .before .before .before .before .before .before .before .before .before .before .before .before .before .before .before .before .before .before .before .before .before .args in
+    let h = c .before .before .before .before .before .before .before .before .before .before .before .before .before .before .before .before .before .before .before .before .before .before .pre in
+    (refl, counts-small _ (a .voxels-shape) (a .interior) (h .1 .0) (a .voxels .now) (a .faces) _ (c .before .before .before .before .before .before .before .before .before .before .before .before .before .before .before .before .before .before .kernel-strides .ensures) _ _ _ (c .before .before .before .before .before .before .before .before .before .before .before .before .linearize .ensures) (c .before .before .before .before .before .before .before .before .before .before .before .before .before .before .before .before .new .ensures) (c .before .before .before .before .before .before .before .before .before .before .before .before .before .before .before .new2 .ensures) (c .before .before .before .before .before .before .before .before .before .before .before .before .before .before .before .before .before .before .before .before .before .before .good .1 .1 .1 .1 .1 .0 .1 .0 .1) _ (c .before .before .before .count-slices .ensures))
+
+slice-aggregate-list-slices : tie.Need-slice-aggregate-list-slices
+slice-aggregate-list-slices c = search needs
+
+slice-aggregate-list-slices-2 : tie.Need-slice-aggregate-list-slices-2
+slice-aggregate-list-slices-2 c = search needs
+
+list-slices-requires : tie.Need-list-slices-requires
+unfolding along
+list-slices-requires c κs =
+    let a = c .before .before .before .before .before .before .before .before .before .before .before .before .before .before .before .before .before .before .before .before .before .before .before .before .before .before .before .args in
+    let h = c .before .before .before .before .before .before .before .before .before .before .before .before .before .before .before .before .before .before .before .before .before .before .before .before .before .before .before .pre in
+    let lo = below _ (a .voxels-shape) (a .interior) (h .1 .0) in
+    let hi = bound-small _ (a .voxels-shape) (a .interior) (h .1 .0) in
+    (h .0, (all-ready _ (a .voxels-shape) (a .interior) (h .1 .0) (a .voxels .now) (a .faces) _ (c .before .before .before .before .before .before .before .before .before .before .before .before .before .before .before .before .before .before .before .before .before .before .before .kernel-strides .ensures) _ _ _ (c .before .before .before .before .before .before .before .before .before .before .before .before .before .before .before .before .before .linearize .ensures) (c .before .before .before .before .before .before .before .before .before .before .before .before .before .before .before .before .before .before .before .before .before .new .ensures) (c .before .before .before .before .before .before .before .before .before .before .before .before .before .before .before .before .before .before .before .before .new2 .ensures), (all-sound _ (a .voxels-shape) (a .interior) (h .1 .0) (a .voxels .now) (a .faces) _ (c .before .before .before .before .before .before .before .before .before .before .before .before .before .before .before .before .before .before .before .before .before .before .before .kernel-strides .ensures) _ _ _ (c .before .before .before .before .before .before .before .before .before .before .before .before .before .before .before .before .before .linearize .ensures) (c .before .before .before .before .before .before .before .before .before .before .before .before .before .before .before .before .before .before .before .before .before .new .ensures) (c .before .before .before .before .before .before .before .before .before .before .before .before .before .before .before .before .before .before .before .before .new2 .ensures) (h .1 .1), ((cursors-room _ (a .voxels-shape) (a .interior) (h .1 .0) (a .voxels .now) (a .faces) _ (c .before .before .before .before .before .before .before .before .before .before .before .before .before .before .before .before .before .before .before .before .before .before .before .kernel-strides .ensures) _ _ _ (c .before .before .before .before .before .before .before .before .before .before .before .before .before .before .before .before .before .linearize .ensures) (c .before .before .before .before .before .before .before .before .before .before .before .before .before .before .before .before .before .before .before .before .before .new .ensures) (c .before .before .before .before .before .before .before .before .before .before .before .before .before .before .before .before .before .before .before .before .new2 .ensures) (c .before .before .before .before .before .before .before .before .before .before .before .before .before .before .before .before .before .before .before .before .before .before .before .before .before .before .before .good .1 .1 .1 .1 .1 .0 .1 .0 .1) _ (c .before .before .before .before .before .before .before .before .count-slices .ensures) (a .out .now) _ _ (c .before .before .before .before .run-starts .ensures), omega (arith, lo X, hi X), omega (arith, lo Y, hi Y), omega (arith, lo Z, hi Z)), runs-apart _ (a .voxels-shape) (a .interior) (h .1 .0) (a .voxels .now) (a .faces) _ (c .before .before .before .before .before .before .before .before .before .before .before .before .before .before .before .before .before .before .before .before .before .before .before .kernel-strides .ensures) _ _ _ (c .before .before .before .before .before .before .before .before .before .before .before .before .before .before .before .before .before .linearize .ensures) (c .before .before .before .before .before .before .before .before .before .before .before .before .before .before .before .before .before .before .before .before .before .new .ensures) (c .before .before .before .before .before .before .before .before .before .before .before .before .before .before .before .before .before .before .before .before .new2 .ensures) (c .before .before .before .before .before .before .before .before .before .before .before .before .before .before .before .before .before .before .before .before .before .before .before .before .before .before .before .good .1 .1 .1 .1 .1 .0 .1 .0 .1) _ (c .before .before .before .before .before .before .before .before .count-slices .ensures) (a .out .now) _ _ (c .before .before .before .before .run-starts .ensures)))))
+
+same-length : tie.Need-same-length
+same-length c = search needs
+
+returns : tie.Need-returns
 returns c =
-    let a = c .before .before .before .before .args in
-    let l = c .before .loop in
-    record {
-      is = l .inv .4 ∙ ap (λ (g : List (List Point)). listed-all (output (a .out .now) 0) (joined g)) (groups-done (unitGroup (a .interior) (field (a .voxels-shape) (a .voxels .now))) (a .t6) (l .k) (omega arith));
-      each = counts-done (unitGroup (a .interior) (field (a .voxels-shape) (a .voxels .now))) (a .t6) _ _ _ (l .inv .1) (c .loop-test .left) (l .inv .5);
-    }
+    let a = c .before .before .before .before .before .before .before .before .before .before .before .before .before .before .before .before .before .before .before .before .before .before .before .before .before .before .before .before .before .before .before .args in
+    let h = c .before .before .before .before .before .before .before .before .before .before .before .before .before .before .before .before .before .before .before .before .before .before .before .before .before .before .before .before .before .before .before .pre in
+    groups-made _ (a .voxels-shape) (a .interior) (h .1 .0) (a .voxels .now) (a .faces) _ (c .before .before .before .before .before .before .before .before .before .before .before .before .before .before .before .before .before .before .before .before .before .before .before .before .before .before .before .kernel-strides .ensures) _ _ _ (c .before .before .before .before .before .before .before .before .before .before .before .before .before .before .before .before .before .before .before .before .before .linearize .ensures) (c .before .before .before .before .before .before .before .before .before .before .before .before .before .before .before .before .before .before .before .before .before .before .before .before .before .new .ensures) (c .before .before .before .before .before .before .before .before .before .before .before .before .before .before .before .before .before .before .before .before .before .before .before .before .new2 .ensures) (c .before .before .before .before .before .before .before .before .before .before .before .before .before .before .before .before .before .before .before .before .before .before .before .before .before .before .before .before .before .before .before .good .1 .1 .1 .1 .1 .0 .1 .0 .1) _ (c .before .before .before .before .before .before .before .before .before .before .before .before .count-slices .ensures) (a .out .now) _ _ (c .before .before .before .before .before .before .before .before .run-starts .ensures) (c .before .before .before .list-slices .ensures)
 
 pub mesh-faces-spec : {M : Type 1} → statement M
 mesh-faces-spec =
     tie.close
     (tie.spec
-    Inv-loop
-    μ-loop
-    loop-holds
-    mul-face
-    array-copy-out-face
-    mesh-face-requires
-    sub-counts
-    mul-counts
-    array-write-counts
-    add-k
-    loop-less
-    loop-again
+    slice-aggregate-kernel-strides
+    kernel-strides-requires
+    new-requires
+    new-requires-2
+    linearize-requires
+    sub-wide
+    sub-high
+    sub-deep
+    slice-aggregate-count-slices
+    slice-aggregate-count-slices-2
+    count-slices-requires
+    slice-aggregate-run-starts
+    slice-aggregate-run-starts-2
+    run-starts-requires
+    slice-aggregate-list-slices
+    slice-aggregate-list-slices-2
+    list-slices-requires
     same-length
     returns)

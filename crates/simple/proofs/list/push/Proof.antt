@@ -6,8 +6,8 @@ use lib.ListN.{length-set}
 use Rattle.voxels.proofs.Pushed.{pushed-room, pushed-full}
 use Rattle.voxels.specs.Listing.{capacity}
 use Rattle.simple.specs.Unit.{unitNumbers, numbersOf}
-use Rattle.simple.proofs.push.Statement.{statement}
-use Rattle.simple.proofs.push.Tie as tie
+use Rattle.simple.proofs.list.push.Statement.{statement}
+use Rattle.simple.proofs.list.push.Tie as tie
 
 mul-at : tie.Need-mul-at
 mul-at c = search needs

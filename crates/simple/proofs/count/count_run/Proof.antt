@@ -1,18 +1,18 @@
--- `count_row` meets its contract: what is counted and what is left make the whole.
+-- `count_run` meets its contract: what is counted and what is left make the whole.
 use borrow.Author.Needs.{needs}
 use mathlib.Core.Path.{_≡_}
 use Prim.Native.Nat.{_+_, _-_, _≤_}
 use native.Mathlib.Omega.{arith}
 use Rattle.simple.specs.Inner.{shownBeside}
 use Rattle.simple.proofs.Counted.{count-start, count-on, count-done, count-small}
-use Rattle.simple.proofs.count_row.Statement.{statement}
-use Rattle.simple.proofs.count_row.Tie as tie
+use Rattle.simple.proofs.count.count_run.Statement.{statement}
+use Rattle.simple.proofs.count.count_run.Tie as tie
 
 abbrev Inv-loop : tie.InvT-loop
-Inv-loop voxels wide i j count₀ k₀ n count k = (k ≤ wide) × (count ≤ k) × (count + shownBeside voxels (i + k) (j + k) (wide - k) ≡ shownBeside voxels i j wide)
+Inv-loop voxels long i j count₀ k₀ n count k = (k ≤ long) × (count ≤ k) × (count + shownBeside voxels (i + k) (j + k) (long - k) ≡ shownBeside voxels i j long)
 
 abbrev μ-loop : tie.MeasureT-loop
-μ-loop voxels wide i j count₀ k₀ n count k = wide - k
+μ-loop voxels long i j count₀ k₀ n count k = long - k
 
 cast-i : tie.Need-cast-i Inv-loop μ-loop
 cast-i c = search needs
@@ -30,7 +30,7 @@ mul-shown : tie.Need-mul-shown Inv-loop μ-loop
 mul-shown c = search needs
 
 shared-slice-read-shown : tie.Need-shared-slice-read-shown Inv-loop μ-loop
-shared-slice-read-shown c = c .before .before .before .before .before .before .pre .here (c .before .before .loop .k) (c .before .loop-test .taken)
+shared-slice-read-shown c = c .before .before .before .before .before .before .pre .0 .here (c .before .before .loop .k) (c .before .loop-test .taken)
 
 add-shown-2 : tie.Need-add-shown-2 Inv-loop μ-loop
 add-shown-2 c = search needs
@@ -39,10 +39,10 @@ mul-shown-2 : tie.Need-mul-shown-2 Inv-loop μ-loop
 mul-shown-2 c = search needs
 
 shared-slice-read-shown-2 : tie.Need-shared-slice-read-shown-2 Inv-loop μ-loop
-shared-slice-read-shown-2 c = c .before .before .before .before .before .before .before .pre .beyond (c .before .before .before .loop .k) (c .before .before .loop-test .taken)
+shared-slice-read-shown-2 c = c .before .before .before .before .before .before .before .pre .0 .beyond (c .before .before .before .loop .k) (c .before .before .loop-test .taken)
 
 shown-requires : tie.Need-shown-requires Inv-loop μ-loop
-shown-requires c κs = search needs
+shown-requires c κs = c .before .before .before .before .before .before .before .pre .1 (c .before .before .before .loop .k) (c .before .before .loop-test .taken)
 
 add-count : tie.Need-add-count Inv-loop μ-loop
 add-count c = let a = c .before .before .before .before .before .before .before .before .args in record { fits = omega (arith, count-small (a .voxels .now) (a .start .0) (a .beyond .0) _ _ _ (c .shown .ensures) (c .before .before .before .before .loop .inv .1)) }
@@ -61,8 +61,8 @@ loop-again c =
 returns : tie.Need-returns Inv-loop μ-loop
 returns c = count-done _ _ _ _ _ _ _ (c .loop-test .left) (c .before .loop .inv .2)
 
-pub count-row-spec : {M : Type 1} → statement M
-count-row-spec =
+pub count-run-spec : {M : Type 1} → statement M
+count-run-spec =
     tie.close
     (tie.spec
     Inv-loop

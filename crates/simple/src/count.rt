@@ -1,0 +1,249 @@
+// How many quads each face will list, so that each face's run of the output is known before anything
+// is written.
+//
+// A slice whose rows are two voxels apart, as those of a box that spans its block along x, is counted as
+// one run of voxels, without a branch, less the voxels between its rows. Other slices are counted row
+// by row, and a voxel that is empty is passed before any neighbor is looked at.
+ghost use mathlib.Core.Path.{_≡_};
+ghost use Prim.Native.Nat.{_+_, _*_, _<_, _≤_};
+ghost use lib.ListN.{length, getD};
+ghost use Rattle.geometry.specs.Axes.{bit};
+ghost use Rattle.voxels.specs.Voxel as rule;
+ghost use Rattle.voxels.specs.Visible.{offsetIndex};
+ghost use Rattle.voxels.specs.Inner.{mostVoxels};
+ghost use Rattle.simple.specs.Inner.{shownAt, shownBeside, rowShown, sliceShown, slicesShown, Beside, RowReady, SliceReady, SlicesReady, Kernel, Room, Sound, SliceSound, SlicesSound, Flat, Within, Counted, CountedLess};
+use voxels::index::Stride;
+use voxels::index::VoxelIndex;
+use voxels::voxel;
+
+// The longest run whose voxels are counted in 16 bits.
+const LONGEST: u32 = 65535;
+
+// 1 where a voxel that is not bad shows its face to its neighbor, else 0.
+fn shown(voxel: u16, neighbor: u16) -> u16
+    requires { ⌜ rule.class voxel ≤ 2 ⌝ }
+    ensures { λ r. ⌜ r ≡ bit (rule.shows voxel neighbor) ⌝ }
+{
+    if voxel::class(neighbor) < voxel::class(voxel) {
+        return 1;
+    }
+    0
+}
+
+// How many voxels of a run show their faces to the run beyond.
+fn count_run(voxels: &[u16], start: VoxelIndex, beyond: VoxelIndex, long: u32) -> u16
+    requires { ⌜ Beside (length (now voxels)) (start .0) (beyond .0) long ⌝ }
+    requires { ⌜ Sound (now voxels) (start .0) long ⌝ }
+    ensures { λ r. ⌜ r ≡ shownBeside (now (voxels .entry)) (start .0) (beyond .0) long ⌝ }
+{
+    let i = start.0 as usize;
+    let j = beyond.0 as usize;
+    let mut count: u16 = 0;
+    let mut k: usize = 0;
+    let n = long as usize;
+    while k < n {
+        count += shown(voxels[i + k], voxels[j + k]);
+        k += 1;
+    }
+    count
+}
+
+// Counts the faces that a voxel shows.
+fn count_voxel(voxels: &[u16], kernel_strides: &[u32], counts: &mut [u64], index: VoxelIndex)
+    requires { ⌜ (index .0 < length (now voxels)) × (rule.class (getD (now voxels) (index .0) 0) ≤ 2) ⌝ }
+    requires { ⌜ Kernel (now «kernel_strides») (λ o. offsetIndex (index .0) o < length (now voxels)) ⌝ }
+    requires { ⌜ Room (now counts) 1 ⌝ }
+    ensures { λ _. ⌜ Counted (now («kernel_strides» .entry)) (now (counts .entry)) (now (counts .exit)) (λ o. shownAt (now (voxels .entry)) o (index .0)) ⌝ }
+{
+    let i = index.0 as usize;
+    let sight = voxel::sight(voxels[i]);
+    if sight == 0 {
+        return;
+    }
+    let mut f: usize = 0;
+    while f < 6 {
+        let neighbor = index.offset(Stride(kernel_strides[f]));
+        let j = neighbor.0 as usize;
+        if voxels[j] < sight {
+            counts[f] += 1;
+        }
+        f += 1;
+    }
+}
+
+// Counts the faces that a row shows.
+fn count_row(
+    voxels: &[u16],
+    kernel_strides: &[u32],
+    counts: &mut [u64],
+    start: VoxelIndex,
+    wide: u32,
+)
+    requires { ⌜ Kernel (now «kernel_strides») (λ o. RowReady (length (now voxels)) o (start .0) wide) ⌝ }
+    requires { ⌜ Sound (now voxels) (start .0) wide ⌝ }
+    requires { ⌜ Room (now counts) wide × (start .0 + wide ≤ 2 * mostVoxels) ⌝ }
+    ensures { λ _. ⌜ Counted (now («kernel_strides» .entry)) (now (counts .entry)) (now (counts .exit)) (λ o. rowShown (now (voxels .entry)) o wide (start .0)) ⌝ }
+{
+    let mut k: u32 = 0;
+    let mut i = start.0;
+    while k < wide {
+        count_voxel(voxels, kernel_strides, counts, VoxelIndex(i));
+        k += 1;
+        i += 1;
+    }
+}
+
+// Counts the faces that rows show, row by row.
+fn count_rows(
+    voxels: &[u16],
+    kernel_strides: &[u32],
+    counts: &mut [u64],
+    start: VoxelIndex,
+    wide: u32,
+    y_stride: Stride,
+    high: u32,
+)
+    requires { ⌜ Kernel (now «kernel_strides») (λ o. SliceReady (length (now voxels)) o (start .0) wide («y_stride» .0) high) ⌝ }
+    requires { ⌜ SliceSound (now voxels) (start .0) wide («y_stride» .0) high ⌝ }
+    requires { ⌜ Room (now counts) (high * «y_stride» .0) ⌝ }
+    ensures { λ _. ⌜ Counted (now («kernel_strides» .entry)) (now (counts .entry)) (now (counts .exit)) (λ o. sliceShown (now (voxels .entry)) o wide («y_stride» .0) high (start .0)) ⌝ }
+{
+    let step = y_stride.0;
+    let mut k: u32 = 0;
+    let mut i = start.0;
+    while k < high {
+        count_row(voxels, kernel_strides, counts, VoxelIndex(i), wide);
+        k += 1;
+        i += step;
+    }
+}
+
+// Counts the faces that a run shows, less so many of each face.
+fn count_runs(
+    voxels: &[u16],
+    kernel_strides: &[u32],
+    counts: &mut [u64],
+    less: &[u64],
+    start: VoxelIndex,
+    long: u32,
+)
+    requires { ⌜ Kernel (now «kernel_strides») (λ o. RowReady (length (now voxels)) o (start .0) long) ⌝ }
+    requires { ⌜ Sound (now voxels) (start .0) long ⌝ }
+    requires { ⌜ Room (now counts) long ⌝ }
+    requires { ⌜ Within (now «kernel_strides») (now less) (λ o. rowShown (now voxels) o long (start .0)) ⌝ }
+    ensures { λ _. ⌜ CountedLess (now («kernel_strides» .entry)) (now (less .entry)) (now (counts .entry)) (now (counts .exit)) (λ o. rowShown (now (voxels .entry)) o long (start .0)) ⌝ }
+{
+    let mut f: usize = 0;
+    while f < 6 {
+        let beyond = start.offset(Stride(kernel_strides[f]));
+        let run = count_run(voxels, start, beyond, long) as u64;
+        counts[f] += run - less[f];
+        f += 1;
+    }
+}
+
+// Counts the faces that a slice shows whose rows are two voxels apart, as one run.
+fn count_flat(
+    voxels: &[u16],
+    kernel_strides: &[u32],
+    counts: &mut [u64],
+    start: VoxelIndex,
+    wide: u32,
+    y_stride: Stride,
+    high: u32,
+    long: u32,
+)
+    requires { ⌜ Kernel (now «kernel_strides») (λ o. SliceReady (length (now voxels)) o (start .0) wide («y_stride» .0) high) ⌝ }
+    requires { ⌜ SliceSound (now voxels) (start .0) wide («y_stride» .0) high ⌝ }
+    requires { ⌜ Room (now counts) (high * «y_stride» .0) ⌝ }
+    requires { ⌜ Flat wide («y_stride» .0) high long ⌝ }
+    ensures { λ _. ⌜ Counted (now («kernel_strides» .entry)) (now (counts .entry)) (now (counts .exit)) (λ o. sliceShown (now (voxels .entry)) o wide («y_stride» .0) high (start .0)) ⌝ }
+{
+    let mut between = [0u64; 6];
+    count_rows(
+        voxels,
+        kernel_strides,
+        &mut between,
+        VoxelIndex(start.0 + wide),
+        2,
+        y_stride,
+        high - 1,
+    );
+    count_runs(voxels, kernel_strides, counts, &between, start, long);
+}
+
+// Counts the faces that a slice shows.
+fn count_slice(
+    voxels: &[u16],
+    kernel_strides: &[u32],
+    counts: &mut [u64],
+    start: VoxelIndex,
+    wide: u32,
+    y_stride: Stride,
+    high: u32,
+)
+    requires { ⌜ Kernel (now «kernel_strides») (λ o. SliceReady (length (now voxels)) o (start .0) wide («y_stride» .0) high) ⌝ }
+    requires { ⌜ SliceSound (now voxels) (start .0) wide («y_stride» .0) high ⌝ }
+    requires { ⌜ Room (now counts) (high * «y_stride» .0) ⌝ }
+    ensures { λ _. ⌜ Counted (now («kernel_strides» .entry)) (now (counts .entry)) (now (counts .exit)) (λ o. sliceShown (now (voxels .entry)) o wide («y_stride» .0) high (start .0)) ⌝ }
+{
+    let step = y_stride.0;
+    if wide == 0 {
+        return;
+    }
+    if high == 0 {
+        return;
+    }
+    let long = (high - 1) * step + wide;
+    if step == wide + 2 {
+        if long <= LONGEST {
+            count_flat(
+                voxels,
+                kernel_strides,
+                counts,
+                start,
+                wide,
+                y_stride,
+                high,
+                long,
+            );
+            return;
+        }
+    }
+    count_rows(voxels, kernel_strides, counts, start, wide, y_stride, high);
+}
+
+// Counts the faces that all slices show.
+pub(crate) fn count_slices(
+    voxels: &[u16],
+    kernel_strides: &[u32],
+    counts: &mut [u64],
+    start: VoxelIndex,
+    wide: u32,
+    y_stride: Stride,
+    high: u32,
+    z_stride: Stride,
+    deep: u32,
+)
+    requires { ⌜ Kernel (now «kernel_strides») (λ o. SlicesReady (length (now voxels)) o (start .0) wide («y_stride» .0) high («z_stride» .0) deep) ⌝ }
+    requires { ⌜ SlicesSound (now voxels) (start .0) wide («y_stride» .0) high («z_stride» .0) deep ⌝ }
+    requires { ⌜ Room (now counts) (deep * «z_stride» .0) ⌝ }
+    ensures { λ _. ⌜ Counted (now («kernel_strides» .entry)) (now (counts .entry)) (now (counts .exit)) (λ o. slicesShown (now (voxels .entry)) o wide («y_stride» .0) high («z_stride» .0) deep (start .0)) ⌝ }
+{
+    let step = z_stride.0;
+    let mut k: u32 = 0;
+    let mut i = start.0;
+    while k < deep {
+        count_slice(
+            voxels,
+            kernel_strides,
+            counts,
+            VoxelIndex(i),
+            wide,
+            y_stride,
+            high,
+        );
+        k += 1;
+        i += step;
+    }
+}
