@@ -76,7 +76,7 @@ ruleGroups inner v faces = map (λ (f : OrientedBlockFace). greedyGroup inner v 
 abbrev pub PartMeshed : Field → Extent → OrientedBlockFace → List UnorientedQuad → Type 0
 PartMeshed v inner f quads = Consistent f v inner quads
 
--- Of the same.
+-- Of a block, a box, six faces, the answer and the output at exit, as `CallHolds` is.
 pub record NineHolds (voxels : List ℕ) (shape min max : Point) (faces : List OrientedBlockFace) (answer : GreedyAnswer) (out : List ℕ) : Type 0 where
   -- The place is the capacity of the output,
   pub place : answer .place ≡ capacity quadNumbers (length out)

@@ -26,7 +26,7 @@ sweep a e = upTo (along a (e .minimum)) (along a (e .bound)) (λ (k : ℕ). scan
 
 -- ---- quads and what they contain
 
--- A number is one of the n from a on.
+-- Whether a number is one of the n from a on.
 unfoldable pub among : ℕ → ℕ → ℕ → Bool
 among a n k = leb a k && ltb k (a + n)
 

@@ -109,7 +109,7 @@ uv a b = record { u = asF32 (pos a); v = asF32 (pos b) }
 unfoldable pub numbersOfAll : List UnorientedQuad → List ℕ
 numbersOfAll quads = joined (map (λ (q : UnorientedQuad). numbersOf (listed q)) quads)
 
--- Six times (1,1,1,1,1) as a listing, and its first five.
+-- So many times (1,1,1,1,1) as a listing: E1's six quads, and its first five.
 abbrev pub ones : ℕ → List ℕ
 ones n = replicate (n * quadNumbers) 1
 

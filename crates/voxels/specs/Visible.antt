@@ -9,7 +9,7 @@ use Rattle.geometry.specs.Axes.{positive, nAxis}
 use Rattle.voxels.specs.Voxel.{shows}
 use Rattle.voxels.specs.Shape.{Field}
 
--- A point, one step along an axis: up, or down.
+-- A point, one step along an axis: up, or down. (There is nothing below 0: from there a step down stays. No interior point is at 0.)
 unfoldable pub stepped : Bool → Axis → Point → Point
 stepped true a p = moved a 1 p
 stepped false a p = put a (along a p - 1) p
@@ -27,7 +27,7 @@ abbrev pub modulus : ℕ
 modulus = 4_294_967_296
 
 -- What leads from a voxel's index to its neighbour's: the stride of n, and "The step toward the negative side is kept as zero minus the stride, modulo 2 to
--- the 32nd" (greedy.rs 157 to 161). The stride is below that.
+-- the 32nd" (greedy.rs 157 to 161). An accepted shape's strides are below that.
 abbrev pub visibilityOffset : Bool → ℕ → ℕ
 visibilityOffset true stride = stride
 visibilityOffset false stride = (modulus - stride) % modulus
