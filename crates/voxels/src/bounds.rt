@@ -307,7 +307,7 @@ fn span(min: u32, max: u32) -> u32
     max - min + 1
 }
 
-// The first bad voxel of a box that lies in the shape: each voxel once, rows in memory order.
+// The first bad voxel of a box that lies in the shape, rows in memory order.
 fn check_box(voxels: &[u16], voxels_shape: UVec3, min: UVec3, max: UVec3) -> EntryCheck
     requires { ⌜ Held «voxels_shape» (length (now voxels)) min max ⌝ }
     ensures { λ r. ⌜ entryCheckMeaning r ≡ checked (badVoxels (now (voxels .entry)) «voxels_shape» min max) ⌝ }
