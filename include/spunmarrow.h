@@ -1,6 +1,7 @@
 /* Spunmarrow: quads from blocks of voxels. The C interface.
  *
- * Link with libspunmarrow.a, which `rt staticlib spunmarrow` writes to target/staticlib/, on x86-64 Linux. Plain C99; C++17 takes it as well.
+ * Link with libspunmarrow.a, which `rt staticlib spunmarrow` writes to target/staticlib/, on x86-64 Linux: cc -Iinclude FILE.c target/staticlib/libspunmarrow.a. Plain C99; C++17 takes it as well.
+ * host/mesh_file.c is a program to copy.
  *
  * WHAT THE CALLER GUARANTEES. What each function answers and leaves in each buffer is proved, for every value of every number that it is handed. A proof can't see
  * through a pointer, so this is left to the caller:
@@ -18,13 +19,14 @@
  *
  * A FACE is two numbers. Its sign is 1 or -1: the side of its normal axis n that it looks to. Its permutation's number says which axes are n, u and v:
  *     0 Xyz   1 Zxy   2 Yzx   3 Zyx   4 Xzy   5 Yxz     (the letters are n, u, v in that order)
- * The faces of a cube, each with the permutation of the Rust's `OrientedBlockFace::canonical`: +X and -X are 1 and -1 with 0, +Y and -Y with 2, +Z and -Z with 1.
+ * The faces of a cube, each with the permutation of the Rust's `OrientedBlockFace::canonical`: +X and -X are 1 and -1 with 0, +Y and -Y with 2, +Z and -Z with 1. As a mesher's
+ * `faces`, in this order: {1, 0, -1, 0, 1, 2, -1, 2, 1, 1, -1, 1}.
  *
  * A QUAD is five numbers: the x, y and z of its least voxel, its width (voxels along u) and its height (voxels along v). Quad limits: x, y and z at most 255, width and
  * height at least 1, and neither the minimum plus the width on u nor the minimum plus the height on v above 256.
  *
  * A VOXEL is 16 bits. The top two are its class: 0 empty, 1 translucent, 2 opaque; 3 is bad. The other fourteen are its merge value: greedy quads span voxels of one
- * merge value. The voxel (x, y, z) of a block of X by Y by Z has the index x + X*y + X*Y*z.
+ * merge value. So an opaque voxel of merge value 7 is 2 * 16384 + 7. The voxel (x, y, z) of a block of X by Y by Z has the index x + X*y + X*Y*z.
  */
 #ifndef SPUNMARROW_H
 #define SPUNMARROW_H
