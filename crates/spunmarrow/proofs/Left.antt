@@ -12,11 +12,11 @@ use Rattle.greedy.specs.declared.GreedyAnswer.{GreedyAnswer}
 use Rattle.greedy.specs.Greedy as greedy
 use Rattle.greedy.specs.Greedy.{greedyQuads}
 use Rattle.spunmarrow.specs.Numbers.{pointOf}
-use Rattle.spunmarrow.specs.Faces.{badFaces, facesOf}
+use Rattle.spunmarrow.specs.Faces.{badNumbers, facesOf}
 use Rattle.spunmarrow.specs.Mesh.{nine, nineRefused, unitLeft, unitCall, greedyLeft, greedyCall}
 
 -- A call of unit meshing.
-module _ (shape min max : List ℕ) (faces : List ℤ) (voxels out : List ℕ) {x : Answer (Unit {0})} (read : x ≡ checked (badFaces faces)) {answer : List ℕ} where
+module _ (shape min max : List ℕ) (faces : List ℤ) (voxels out : List ℕ) {x : Answer (Unit {0})} (read : x ≡ checked (badNumbers faces)) {answer : List ℕ} where
   -- Faces that are refused leave the output as it was.
   pub unit-refused : {n p : ℕ} → x ≡ refused n p → answer ≡ nineRefused n p → unitLeft answer out ≡ unitCall shape min max faces voxels out
   unfolding unitCall
@@ -31,7 +31,7 @@ module _ (shape min max : List ℕ) (faces : List ℤ) (voxels out : List ℕ) {
   unit-made e s least most six meshed is = rw (is, sym read ∙ e, ← s, ← least, ← most, ← six, ← meshed)
 
 -- A call of greedy meshing.
-module _ (shape min max : List ℕ) (faces : List ℤ) (voxels visited out : List ℕ) {x : Answer (Unit {0})} (read : x ≡ checked (badFaces faces)) {answer : List ℕ} where
+module _ (shape min max : List ℕ) (faces : List ℤ) (voxels visited out : List ℕ) {x : Answer (Unit {0})} (read : x ≡ checked (badNumbers faces)) {answer : List ℕ} where
   -- Faces that are refused leave the buffers as they were.
   pub greedy-refused : {n p : ℕ} → x ≡ refused n p → answer ≡ nineRefused n p → greedyLeft answer visited out ≡ greedyCall shape min max faces voxels visited out
   unfolding greedyCall

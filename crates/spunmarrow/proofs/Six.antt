@@ -22,7 +22,7 @@ use Rattle.voxels.specs.Extent.{every}
 use Rattle.voxels.proofs.Orders.{answer-refused}
 use Rattle.voxels.proofs.Asked.{ask-on, ask-stops, place-passes, place-refuses}
 use Rattle.spunmarrow.specs.Numbers.{face}
-use Rattle.spunmarrow.specs.Faces.{noSigned, signedOr, signedPermutation, signAt, numberAt, badFace, faceAt}
+use Rattle.spunmarrow.specs.Faces.{noSigned, signedOr, signedPermutation, signAt, numberAt, badNumber, faceAt}
 
 -- ---- a signed number
 
@@ -73,14 +73,14 @@ module _ (numbers : List ℤ) (k : ℕ) {x : Answer AxisPermutation} (fits : mag
   read-is = read ∙ ap signedPermutation (toZ-ofZ (sfits-of {z = numberAt numbers k} fits))
 
   -- The check of six faces goes on after a face that has a permutation, and stops at one that has none.
-  module _ {t : Answer (Unit {0})} (left : checked (every 1 k (6 - k) (badFace numbers)) ≡ t) (h : k < 6) where
-    pub face-on : {p : AxisPermutation} → x ≡ accepted p → checked (every 1 (k + 1) (6 - (k + 1)) (badFace numbers)) ≡ t
+  module _ {t : Answer (Unit {0})} (left : checked (every 1 k (6 - k) (badNumber numbers)) ≡ t) (h : k < 6) where
+    pub face-on : {p : AxisPermutation} → x ≡ accepted p → checked (every 1 (k + 1) (6 - (k + 1)) (badNumber numbers)) ≡ t
     unfolding signedPermutation answer
-    face-on e = ask-on 1 (badFace numbers) k k 6 left h (place-passes (noSigned (numberAt numbers k)) k [] (accepts-checked (noSigned (numberAt numbers k) ∷ []) (signedOr (numberAt numbers k)) (sym read-is ∙ e)))
+    face-on e = ask-on 1 (badNumber numbers) k k 6 left h (place-passes (noSigned (numberAt numbers k)) k [] (accepts-checked (noSigned (numberAt numbers k) ∷ []) (signedOr (numberAt numbers k)) (sym read-is ∙ e)))
 
     pub face-stops : {m : ℕ} → x ≡ refused m 0 → refused m k ≡ t
     unfolding signedPermutation
-    face-stops e = ask-stops 1 (badFace numbers) k k 6 left h (place-refuses (noSigned (numberAt numbers k)) k [] (answer-refused _ _ (sym read-is ∙ e)))
+    face-stops e = ask-stops 1 (badNumber numbers) k k 6 left h (place-refuses (noSigned (numberAt numbers k)) k [] (answer-refused _ _ (sym read-is ∙ e)))
 
   -- A face is made of its sign's bits and its permutation, or of the first where it has none.
   module _ (sign : mag (signAt numbers k) < 2 ^ hbits w32) where

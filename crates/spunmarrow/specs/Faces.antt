@@ -37,12 +37,12 @@ abbrev pub numberAt : List ℤ → ℕ → ℤ
 numberAt numbers k = getD numbers (k * 2 + 1) (pos 0)
 
 -- Refusal 17 of the k-th face, which is its place.
-abbrev pub badFace : List ℤ → ℕ → List Check
-badFace numbers k = atPlace k (noSigned (numberAt numbers k)) ∷ []
+abbrev pub badNumber : List ℤ → ℕ → List Check
+badNumber numbers k = atPlace k (noSigned (numberAt numbers k)) ∷ []
 
 -- Refusal 17 of six faces.
-unfoldable pub badFaces : List ℤ → List Check
-badFaces numbers = upTo 0 6 (badFace numbers)
+unfoldable pub badNumbers : List ℤ → List Check
+badNumbers numbers = upTo 0 6 (badNumber numbers)
 
 -- The k-th face.
 unfoldable pub faceAt : List ℤ → ℕ → OrientedBlockFace

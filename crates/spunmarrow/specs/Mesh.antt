@@ -7,7 +7,7 @@ use Rattle.geometry.specs.Refusal.{Answer, accepted, refused, checked}
 use Rattle.simple.specs.Unit.{UnitOutcome, visibleBlockFaces}
 use Rattle.greedy.specs.Greedy.{GreedyOutcome, greedyQuads}
 use Rattle.spunmarrow.specs.Numbers.{pointOf}
-use Rattle.spunmarrow.specs.Faces.{badFaces, facesOf}
+use Rattle.spunmarrow.specs.Faces.{badNumbers, facesOf}
 
 -- An answer's nine numbers: the refusal, or 0 where the call is accepted; its place; the six counts; the tests.
 abbrev pub nine : ℕ → ℕ → List ℕ → ℕ → List ℕ
@@ -34,7 +34,7 @@ unitAfter (refused n p) o out = unitLeft (nineRefused n p) out
 -- The whole outcome of a call of unit meshing: 17, then what `visible_block_faces` leaves.
 unfoldable pub unitCall : List ℕ → List ℕ → List ℕ → List ℤ → List ℕ → List ℕ → UnitLeft
 unitCall shape min max faces voxels out =
-    unitAfter (checked (badFaces faces)) (visibleBlockFaces voxels (pointOf shape) (pointOf min) (pointOf max) (facesOf faces) out) out
+    unitAfter (checked (badNumbers faces)) (visibleBlockFaces voxels (pointOf shape) (pointOf min) (pointOf max) (facesOf faces) out) out
 
 -- All that a call of greedy meshing leaves: its answer, and the visited bytes and the output at exit.
 pub record GreedyLeft : Type 0 where
@@ -55,4 +55,4 @@ greedyAfter (refused n p) o visited out = greedyLeft (nineRefused n p) visited o
 -- The whole outcome of a call of greedy meshing: 17, then what `greedy_quads` leaves.
 unfoldable pub greedyCall : List ℕ → List ℕ → List ℕ → List ℤ → List ℕ → List ℕ → List ℕ → GreedyLeft
 greedyCall shape min max faces voxels visited out =
-    greedyAfter (checked (badFaces faces)) (greedyQuads voxels (pointOf shape) (pointOf min) (pointOf max) (facesOf faces) visited out) visited out
+    greedyAfter (checked (badNumbers faces)) (greedyQuads voxels (pointOf shape) (pointOf min) (pointOf max) (facesOf faces) visited out) visited out

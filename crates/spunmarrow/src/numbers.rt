@@ -5,7 +5,7 @@ ghost use Rattle.geometry.specs.Refusal.{answer, checked};
 ghost use Rattle.geometry.specs.Answers.{permutationMeaning, faceMeaning};
 ghost use Rattle.voxels.specs.Answers.{entryCheckMeaning};
 ghost use Rattle.spunmarrow.specs.Numbers.{pointOf, quadOf, faceOf, cornerOf, axisOf, cornerMeaning, axisMeaning};
-ghost use Rattle.spunmarrow.specs.Faces.{signedPermutation, faceAt, badFaces, facesOf};
+ghost use Rattle.spunmarrow.specs.Faces.{signedPermutation, faceAt, badNumbers, facesOf};
 use geometry::axis::Axis;
 use geometry::axis::AxisPermutation;
 use geometry::axis::PermutationAnswer;
@@ -109,7 +109,7 @@ fn permutation(number: i32) -> PermutationAnswer
 
 // The check of six faces: the first whose permutation's number is none is refused, with its place.
 pub(crate) fn check_faces(numbers: &[i32; 12]) -> EntryCheck
-    ensures { λ r. ⌜ entryCheckMeaning r ≡ checked (badFaces (now (numbers .entry))) ⌝ }
+    ensures { λ r. ⌜ entryCheckMeaning r ≡ checked (badNumbers (now (numbers .entry))) ⌝ }
 {
     let mut k: usize = 0;
     while k < 6 {

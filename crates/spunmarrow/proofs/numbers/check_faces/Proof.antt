@@ -7,19 +7,19 @@ use Rattle.geometry.specs.Refusal.{checked}
 use Rattle.geometry.specs.Answers.{permutationMeaning}
 use Rattle.voxels.specs.Extent.{every}
 use Rattle.voxels.proofs.Asked.{ask-done}
-use Rattle.spunmarrow.specs.Faces.{badFace, badFaces}
+use Rattle.spunmarrow.specs.Faces.{badNumber, badNumbers}
 use Rattle.spunmarrow.proofs.Six.{face-on, face-stops}
 use Rattle.spunmarrow.proofs.numbers.check_faces.Statement.{statement}
 use Rattle.spunmarrow.proofs.numbers.check_faces.Tie as tie
 
 abbrev Inv-loop : tie.InvT-loop
-Inv-loop numbers k₀ k = (k ≤ 6) × (checked (every 1 k (6 - k) (badFace numbers)) ≡ checked (badFaces numbers))
+Inv-loop numbers k₀ k = (k ≤ 6) × (checked (every 1 k (6 - k) (badNumber numbers)) ≡ checked (badNumbers numbers))
 
 abbrev μ-loop : tie.MeasureT-loop
 μ-loop numbers k₀ k = 6 - k
 
 loop-holds : tie.Need-loop-holds Inv-loop μ-loop
-unfolding badFaces
+unfolding badNumbers
 loop-holds c = (search needs, refl)
 
 mul-at : tie.Need-mul-at Inv-loop μ-loop
@@ -56,7 +56,7 @@ loop-again : tie.Need-loop-again Inv-loop μ-loop
 loop-again c = (omega arith, face-on (c .before .before .before .before .before .before .args .numbers .now) _ (c .before .before .before .permutation-arg .given) (c .before .before .permutation .ensures) (c .before .before .before .before .before .loop .inv .1) (omega arith) (ap permutationMeaning (c .enum-told .given .1)))
 
 returns-2 : tie.Need-returns-2 Inv-loop μ-loop
-returns-2 c = ask-done 1 (badFace (c .before .before .args .numbers .now)) _ _ 6 (c .before .loop .inv .1) (omega arith)
+returns-2 c = ask-done 1 (badNumber (c .before .before .args .numbers .now)) _ _ 6 (c .before .loop .inv .1) (omega arith)
 
 pub check-faces-spec : {M : Type 1} → statement M
 check-faces-spec =
