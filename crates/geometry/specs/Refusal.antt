@@ -28,7 +28,11 @@ answer (c ∷ cs) a = elim (c .applies) [ true ↦ refused (c .number) (c .place
 abbrev pub checked : List Check → Answer (Unit {0})
 checked cs = answer cs tt
 
--- One answer and then another: a refusal stands, and where nothing was refused the second is given.
+-- An answer, and then another that is made with its value: a refusal stands.
+abbrev pub andThen : {A B : Type 0} → Answer A → (A → Answer B) → Answer B
+andThen (accepted a) next = next a
+andThen (refused n p) next = refused n p
+
+-- Checks, and then an answer: a refusal stands, and where nothing was refused the answer is given.
 abbrev pub follow : {A : Type 0} → Answer (Unit {0}) → Answer A → Answer A
-follow (accepted u) second = second
-follow (refused n p) second = refused n p
+follow first second = andThen first (λ (passed : Unit {0}). second)

@@ -15,12 +15,12 @@ use Rattle.geometry.specs.declared.face.QuadIndices.{QuadIndices}
 use Rattle.geometry.specs.declared.face.TexCoord.{TexCoord}
 use Rattle.geometry.specs.declared.face.QuadTexCoords.{QuadTexCoords}
 use Rattle.geometry.specs.Point.{Point}
-use Rattle.geometry.specs.Refusal.{Answer, accepted, refused}
+use Rattle.geometry.specs.Refusal.{Answer, accepted, refused, andThen}
 use Rattle.geometry.specs.Face.{quadNormals}
 use Rattle.geometry.specs.Corners.{quadCorners, quadPosition}
 use Rattle.geometry.specs.Vertices.{vertex, quadIndices}
 use Rattle.geometry.specs.Textures.{quadTextures}
-use Rattle.spunmarrow.specs.Numbers.{quadOf, faceOf, cornerOf, axisOf, andThen}
+use Rattle.spunmarrow.specs.Numbers.{quadOf, faceOf, cornerOf, axisOf}
 
 -- All that a call leaves: the number that it answers, and its output at exit.
 pub record Told (A : Type 0) : Type 0 where

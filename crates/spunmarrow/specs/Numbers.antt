@@ -14,7 +14,7 @@ use Rattle.geometry.specs.declared.face.Corner.{Corner}
 use Rattle.geometry.specs.declared.face.Corner.the-variants.{MinuMinv, MaxuMinv, MinuMaxv, MaxuMaxv}
 use Rattle.geometry.specs.Point.{Point, at}
 use Rattle.geometry.specs.Axes.{permutationOf}
-use Rattle.geometry.specs.Refusal.{Answer, accepted, refused, answer, atPlace0}
+use Rattle.geometry.specs.Refusal.{Answer, accepted, refused, answer, atPlace0, andThen}
 use Rattle.spunmarrow.specs.declared.numbers.CornerAnswer
 use Rattle.spunmarrow.specs.declared.numbers.AxisAnswer
 
@@ -53,11 +53,6 @@ axisMeaning (AxisAnswer.the-variants.Axis a) = accepted a
 axisMeaning (AxisAnswer.the-variants.Refused n) = refused n 0
 
 -- ---- faces
-
--- An answer, and then another that is made with its value: a refusal stands.
-abbrev pub andThen : {A B : Type 0} → Answer A → (A → Answer B) → Answer B
-andThen (accepted a) next = next a
-andThen (refused n p) next = refused n p
 
 -- The face of a sign and a permutation.
 abbrev pub face : ℤ → AxisPermutation → OrientedBlockFace
