@@ -1,5 +1,5 @@
 -- Laws of corners: where the base and every corner lie along n, u and v, and that no corner is past the largest axis.
-use mathlib.Core.Bool.{Bool, true, false}
+use mathlib.Core.Bool.{true, false}
 use mathlib.Core.Path.{_≡_, refl}
 use Prim.Native.Nat.{ℕ, _+_, _≤_}
 use native.Mathlib.Omega.{arith}
@@ -13,10 +13,7 @@ use Rattle.geometry.specs.Quad.{largestAxis}
 use Rattle.geometry.specs.Corners.{base, corner}
 use Rattle.geometry.specs.Inner.{AtMost, WithinBounds}
 use Rattle.geometry.proofs.Frame.{frame, moved-none, moved-on, moved-off, moved-at-most}
-
-bit-at-most : (b : Bool) → bit b ≤ 1
-bit-at-most true = omega arith
-bit-at-most false = omega arith
+use Rattle.geometry.proofs.Tests.{bit-at-most}
 
 module _ (f : OrientedBlockFace) (q : UnorientedQuad) where
   -- The base of a face on the positive side is one up along n,

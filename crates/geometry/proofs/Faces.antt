@@ -1,5 +1,5 @@
 -- Laws of faces: the normal on each axis, and when a texture's u is flipped.
-use mathlib.Core.Bool.{Bool, true, false, not, _||_}
+use mathlib.Core.Bool.{true, false, not}
 use mathlib.Core.Path.{_≡_, refl, _∙_, ap}
 use lib.IntN
 use lib.IntN.{ℤ, pos, _*ℤ_, *ℤ-one, *ℤ-zero}
@@ -13,6 +13,7 @@ use Rattle.geometry.specs.Checks.{properSign}
 use Rattle.geometry.specs.Face.{normal}
 use Rattle.geometry.specs.Textures.{flipsU}
 use Rattle.geometry.proofs.Signs.{proper-elim}
+use Rattle.geometry.proofs.Tests.{or-false}
 
 -- A number on one axis, and zero on the others.
 abbrev pub onAxis : ℤ → Axis → IVec3
@@ -33,10 +34,6 @@ pub normal-on : (f : OrientedBlockFace) (a : Axis) → nAxis f ≡ a → normal 
 normal-on f a e = ap (λ (b : Axis). times (f .«n_sign») (unitVector b)) e ∙ times-unit (f .«n_sign») a
 
 -- ---- flips
-
-or-false : (b : Bool) → (b || false) ≡ b
-or-false true = refl
-or-false false = refl
 
 negative-only : (s : ℤ) → properSign s ≡ true → negative s ≡ true → positive s ≡ false
 negative-only = proper-elim _ (λ h. cc) (λ h. refl)

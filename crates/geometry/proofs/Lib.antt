@@ -1,4 +1,6 @@
 -- Laws, and what is shown of the contracts themselves. A function's own proof stands in the folder named after it.
+-- Of tests.
+pub mod Tests
 -- Of orders of refusals.
 pub mod Refusals
 -- From a check's answer to a call's.

@@ -15,6 +15,7 @@ use Rattle.geometry.specs.Axes.{axesOf, uAxis, vAxis}
 use Rattle.geometry.specs.Checks.{properSign, badSign, badQuad, badStart, lastStart, indexChecks}
 use Rattle.geometry.specs.Refusal.{accepted, Check, checked}
 use Rattle.geometry.proofs.Refusals.{first-passes, rest-accepts}
+use Rattle.geometry.proofs.Tests.{both-true}
 use Rattle.geometry.specs.declared.face.OrientedBlockFace.{OrientedBlockFace}
 use Rattle.geometry.specs.Inner.{AtMost, WithinBounds}
 
@@ -29,24 +30,19 @@ limits-tested a q em ew eh = simp (em, ew, eh)
 
 -- ---- what a quad within the limits is known to keep
 
--- Two tests that hold together hold each.
-and-both : (a b : Bool) → (a && b) ≡ true → (a ≡ true) × (b ≡ true)
-and-both true b h = (refl, h)
-and-both false b h = (h, cc)
-
 -- Of the minimum,
 voxel-at-most : (p : Point) → minimumWithinLimits p ≡ true → AtMost (largestAxis - 1) p
 unfolding minimumWithinLimits along
 voxel-at-most p h =
     let most : ℕ → Bool = λ k. leb k (largestAxis - 1) in
-    let (xy, z) = and-both (most (p .x) && most (p .y)) (most (p .z)) h in
-    let (x, y) = and-both (most (p .x)) (most (p .y)) xy in
+    let (xy, z) = both-true (most (p .x) && most (p .y)) (most (p .z)) h in
+    let (x, y) = both-true (most (p .x)) (most (p .y)) xy in
     elim [ X ↦ leb-true _ _ x | Y ↦ leb-true _ _ y | Z ↦ leb-true _ _ z ]
 
 -- of a side,
 side-at-most : (from long : ℕ) → sideWithinLimits from long ≡ true → from + long ≤ largestAxis
 unfolding sideWithinLimits
-side-at-most from long h = leb-true _ _ (and-both (leb 1 long) (leb (from + long) largestAxis) h .1)
+side-at-most from long h = leb-true _ _ (both-true (leb 1 long) (leb (from + long) largestAxis) h .1)
 
 -- and of the quad.
 pub limits-bounds : (f : OrientedBlockFace) (q : UnorientedQuad) → withinLimits (axesOf (f .permutation)) q ≡ true → WithinBounds f q
@@ -54,8 +50,8 @@ unfolding withinLimits
 limits-bounds f q h =
     let w = sideWithinLimits (along (uAxis f) (q .minimum)) (q .width) in
     let t = sideWithinLimits (along (vAxis f) (q .minimum)) (q .height) in
-    let (both, high) = and-both (minimumWithinLimits (q .minimum) && w) t h in
-    let (least, wide) = and-both (minimumWithinLimits (q .minimum)) w both in
+    let (both, high) = both-true (minimumWithinLimits (q .minimum) && w) t h in
+    let (least, wide) = both-true (minimumWithinLimits (q .minimum)) w both in
     record { least = voxel-at-most _ least; wide = side-at-most _ _ wide; high = side-at-most _ _ high }
 
 -- A quad with sides that keeps to the bounds is within the limits.

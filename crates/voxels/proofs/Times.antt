@@ -1,5 +1,5 @@
 -- How many times a point stands in a list: in scan order every point of an extent stands once, and no other point does.
-use mathlib.Core.Bool.{Bool, true, false, _&&_}
+use mathlib.Core.Bool.{Bool, true, false}
 use mathlib.Core.List.{List, [], _∷_, _++_}
 use mathlib.Core.Path.{_≡_, refl, sym, _∙_, ap}
 use Prim.Native.Nat.{ℕ, zero, suc, _+_, _-_, _*_, _≤_, _<_}
@@ -12,16 +12,12 @@ use Rattle.geometry.specs.declared.axis.Axis.the-variants.{X, Y, Z}
 use Rattle.geometry.specs.Point.{Point, at, along}
 use Rattle.geometry.specs.Axes.{bit}
 use Rattle.geometry.proofs.Refusals.{split}
+pub use Rattle.geometry.proofs.Tests.{both-true}
 use Rattle.voxels.specs.declared.extent.Extent.{Extent}
 use Rattle.voxels.specs.Extent.{Inside, every, scan, those, Each, between, inside, samePoint, times, howMany}
 use Rattle.voxels.proofs.Scan.{each-every, each-up, scan-inside}
 
 -- ---- tests
-
--- Where two tests pass together, each does.
-pub both-true : (a b : Bool) → a && b ≡ true → (a ≡ true) × (b ≡ true)
-both-true true b h = (refl, h)
-both-true false b h = (cc, cc)
 
 between-true : (a b k : ℕ) → between a b k ≡ true → (a ≤ k) × (k < b)
 unfolding between
