@@ -33,7 +33,8 @@ pub fn run() {
     faces();
 }
 
-// A voxel's class and merge value, and whether it shows its face to each of three neighbors.
+// A voxel's class and merge value, where its class begins, and whether it shows its face to each of
+// three neighbors.
 fn voxel(v: u16) {
     show::text(b"voxel ");
     show::number(v as u32);
@@ -41,6 +42,8 @@ fn voxel(v: u16) {
     show::number(voxel::class(v) as u32);
     show::text(b", merge value ");
     show::number(voxel::merge_value(v) as u32);
+    show::text(b", sight ");
+    show::number(voxel::sight(v) as u32);
     shown(b", to empty", voxel::shows_face(v, 7));
     shown(b", to translucent", voxel::shows_face(v, 16384));
     shown(b", to opaque", voxel::shows_face(v, 32768));

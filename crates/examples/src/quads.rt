@@ -1,12 +1,11 @@
 // Document 01, 'Greedy meshing': E1 to E9, E12 and E13. Every output is lent full of 9, and the
-// visited bytes as 255 where a call is the first to get them, so that what was not written shows. Where an example names one face, the call
+// visited bytes as 255, so that what was not written shows. Where an example names one face, the call
 // gets it six times: six equal groups, and six times its tests.
 use crate::show;
 use geometry::axis::AxisPermutation;
 use geometry::axis::SignedAxis;
 use geometry::face::OrientedBlockFace;
 use geometry::vector::UVec3;
-use libc::STDOUT_FILENO;
 
 pub fn run() {
     one_voxel();
@@ -67,8 +66,6 @@ fn only(normal: SignedAxis) -> [OrientedBlockFace; 6] {
 // six) and for none (one number short of one). Two visited bytes more than the shape has voxels.
 fn one_voxel() {
     let mut block = [0u16; 27];
-    let mut none = [9u32; 4];
-    let mut before = [255u8; 29];
     meshed(
         b"all empty, capacity 0",
         &block,
@@ -76,267 +73,98 @@ fn one_voxel() {
         3,
         3,
         canonical(),
-        &mut before,
-        &mut none,
+        29,
+        4,
     );
     block[13] = 32775;
-    let mut whole = [9u32; 33];
-    let mut first = [255u8; 29];
-    meshed(b"E1", &block, 3, 3, 3, canonical(), &mut first, &mut whole);
-    let mut short = [9u32; 28];
-    let mut second = [255u8; 29];
-    meshed(
-        b"E12 capacity 5",
-        &block,
-        3,
-        3,
-        3,
-        canonical(),
-        &mut second,
-        &mut short,
-    );
-    let mut empty = [9u32; 0];
-    let mut third = [255u8; 29];
-    meshed(
-        b"E12 capacity 0",
-        &block,
-        3,
-        3,
-        3,
-        canonical(),
-        &mut third,
-        &mut empty,
-    );
+    meshed(b"E1", &block, 3, 3, 3, canonical(), 29, 33);
+    meshed(b"E12 capacity 5", &block, 3, 3, 3, canonical(), 29, 28);
+    meshed(b"E12 capacity 0", &block, 3, 3, 3, canonical(), 29, 0);
 }
 
 // E2 and E3, on +Z.
 fn slice_of_z() {
     let mut block = [0u16; 48];
-    let mut visited = [255u8; 48];
     block[21] = 32775;
-    let mut first = [9u32; 31];
-    meshed(
-        b"E2 +Z",
-        &block,
-        4,
-        4,
-        3,
-        only(SignedAxis::PosZ),
-        &mut visited,
-        &mut first,
-    );
+    meshed(b"E2 +Z", &block, 4, 4, 3, only(SignedAxis::PosZ), 48, 31);
     block[22] = 32775;
     block[25] = 32775;
     block[26] = 32775;
-    let mut second = [9u32; 31];
-    meshed(
-        b"E3 +Z",
-        &block,
-        4,
-        4,
-        3,
-        only(SignedAxis::PosZ),
-        &mut visited,
-        &mut second,
-    );
+    meshed(b"E3 +Z", &block, 4, 4, 3, only(SignedAxis::PosZ), 48, 31);
 }
 
 // E4, E5 and E6, on +Y, whose u is Z: one merge value a column, one a row, and a corner missing.
 fn slice_of_y() {
-    four_voxels(b"E4 +Y", 32775, 32776, 32775, 32776);
-    four_voxels(b"E5 +Y", 32775, 32775, 32776, 32776);
-    four_voxels(b"E6 +Y", 0, 32775, 32775, 32775);
+    let faces = only(SignedAxis::PosY);
+    four_voxels(b"E4 +Y", 32775, 32776, 32775, 32776, faces, 61);
+    four_voxels(b"E5 +Y", 32775, 32775, 32776, 32776, faces, 61);
+    four_voxels(b"E6 +Y", 0, 32775, 32775, 32775, faces, 61);
 }
 
-// The voxels at (1,1,1), (2,1,1), (1,1,2) and (2,1,2).
-fn four_voxels(name: &[u8], a: u16, b: u16, c: u16, d: u16) {
+// The voxels at (1,1,1), (2,1,1), (1,1,2) and (2,1,2), and an output of so many numbers.
+fn four_voxels(
+    name: &[u8],
+    a: u16,
+    b: u16,
+    c: u16,
+    d: u16,
+    faces: [OrientedBlockFace; 6],
+    numbers: usize,
+) {
     let mut block = [0u16; 48];
-    let mut visited = [255u8; 48];
     block[17] = a;
     block[18] = b;
     block[29] = c;
     block[30] = d;
-    let mut out = [9u32; 61];
-    meshed(
-        name,
-        &block,
-        4,
-        3,
-        4,
-        only(SignedAxis::PosY),
-        &mut visited,
-        &mut out,
-    );
+    meshed(name, &block, 4, 3, 4, faces, 48, numbers);
 }
 
 // E7, E8 and E9: a voxel and a translucent one beside it on x.
 fn two_voxels() {
     let mut block = [0u16; 36];
-    let mut visited = [255u8; 36];
     block[17] = 16391;
     block[18] = 16391;
-    let mut seventh = [9u32; 31];
-    meshed(
-        b"E7 +X",
-        &block,
-        4,
-        3,
-        3,
-        only(SignedAxis::PosX),
-        &mut visited,
-        &mut seventh,
-    );
+    meshed(b"E7 +X", &block, 4, 3, 3, only(SignedAxis::PosX), 36, 31);
     block[17] = 32775;
-    let mut up = [9u32; 61];
-    meshed(
-        b"E8 +X",
-        &block,
-        4,
-        3,
-        3,
-        only(SignedAxis::PosX),
-        &mut visited,
-        &mut up,
-    );
-    let mut down = [9u32; 31];
-    meshed(
-        b"E8 -X",
-        &block,
-        4,
-        3,
-        3,
-        only(SignedAxis::NegX),
-        &mut visited,
-        &mut down,
-    );
-    let mut ninth = [9u32; 31];
-    meshed(
-        b"E9 +Z",
-        &block,
-        4,
-        3,
-        3,
-        only(SignedAxis::PosZ),
-        &mut visited,
-        &mut ninth,
-    );
+    meshed(b"E8 +X", &block, 4, 3, 3, only(SignedAxis::PosX), 36, 61);
+    meshed(b"E8 -X", &block, 4, 3, 3, only(SignedAxis::NegX), 36, 31);
+    meshed(b"E9 +Z", &block, 4, 3, 3, only(SignedAxis::PosZ), 36, 31);
 }
 
 // E8 and E9 on all six canonical faces in one call: groups that differ.
 fn six_groups() {
     let mut block = [0u16; 36];
-    let mut visited = [255u8; 36];
     block[17] = 32775;
     block[18] = 16391;
-    let mut out = [9u32; 36];
-    meshed(
-        b"E8, six faces",
-        &block,
-        4,
-        3,
-        3,
-        canonical(),
-        &mut visited,
-        &mut out,
-    );
+    meshed(b"E8, six faces", &block, 4, 3, 3, canonical(), 36, 36);
 }
 
 // E6 on the odd face of +Y, whose u is X: the slice is scanned in the same order, and the first quad
 // is high where E6's is wide.
 fn odd_axes() {
-    let mut block = [0u16; 48];
-    let mut visited = [255u8; 48];
-    block[18] = 32775;
-    block[29] = 32775;
-    block[30] = 32775;
     let face = OrientedBlockFace {
         n_sign: 1,
         permutation: AxisPermutation::Yxz,
     };
     let faces = [face, face, face, face, face, face];
-    let mut out = [9u32; 61];
-    meshed(
-        b"E6 +Y by Yxz",
-        &block,
-        4,
-        3,
-        4,
-        faces,
-        &mut visited,
-        &mut out,
-    );
+    four_voxels(b"E6 +Y by Yxz", 0, 32775, 32775, 32775, faces, 61);
 }
 
 // E4 with room for three of its twelve quads and two numbers more: the second group is cut.
 fn cut() {
-    let mut block = [0u16; 48];
-    let mut visited = [255u8; 48];
-    block[17] = 32775;
-    block[18] = 32776;
-    block[29] = 32775;
-    block[30] = 32776;
-    let mut out = [9u32; 17];
-    meshed(
-        b"E4 +Y, capacity 3",
-        &block,
-        4,
-        3,
-        4,
-        only(SignedAxis::PosY),
-        &mut visited,
-        &mut out,
-    );
+    let faces = only(SignedAxis::PosY);
+    four_voxels(b"E4 +Y, capacity 3", 32775, 32776, 32775, 32776, faces, 17);
 }
 
 // E13: a span of two has no interior, and the marks are cleared all the same; a span of one is
 // refused.
 fn spans() {
     let block = [32775u16; 8];
-    let mut out = [9u32; 3];
-    let mut visited = [255u8; 9];
-    meshed(
-        b"E13 span 2",
-        &block,
-        2,
-        2,
-        2,
-        canonical(),
-        &mut visited,
-        &mut out,
-    );
-    let mut few = [255u8; 4];
-    meshed(
-        b"E13 span 1",
-        &block,
-        2,
-        1,
-        2,
-        canonical(),
-        &mut few,
-        &mut out,
-    );
+    meshed(b"E13 span 2", &block, 2, 2, 2, canonical(), 9, 3);
+    meshed(b"E13 span 1", &block, 2, 1, 2, canonical(), 4, 3);
     let long = [32775u16; 1028];
-    let mut many = [255u8; 1025];
-    meshed(
-        b"E13 axis 256",
-        &long,
-        256,
-        2,
-        2,
-        canonical(),
-        &mut many,
-        &mut out,
-    );
-    meshed(
-        b"E13 axis 257",
-        &long,
-        257,
-        2,
-        2,
-        canonical(),
-        &mut few,
-        &mut out,
-    );
+    meshed(b"E13 axis 256", &long, 256, 2, 2, canonical(), 1025, 3);
+    meshed(b"E13 axis 257", &long, 257, 2, 2, canonical(), 4, 3);
 }
 
 // A box in the middle of a shape of opaque voxels: its interior is one voxel, which shows a face
@@ -359,8 +187,6 @@ fn boxes() {
 // A refused call touches nothing: too few visited bytes, and a bad voxel on the boundary.
 fn refusals() {
     let mut block = [32775u16; 27];
-    let mut out = [9u32; 5];
-    let mut few = [255u8; 26];
     meshed(
         b"26 visited bytes lent of 27",
         &block,
@@ -368,10 +194,9 @@ fn refusals() {
         3,
         3,
         canonical(),
-        &mut few,
-        &mut out,
+        26,
+        5,
     );
-    let mut visited = [255u8; 27];
     block[2] = 49152;
     meshed(
         b"a bad voxel at (2,0,0)",
@@ -380,12 +205,13 @@ fn refusals() {
         3,
         3,
         canonical(),
-        &mut visited,
-        &mut out,
+        27,
+        5,
     );
 }
 
-// A block whose box covers the whole shape: the answer, the visited bytes and the whole output.
+// A block whose box covers the whole shape, with so many visited bytes and an output of so many
+// numbers.
 fn meshed(
     name: &[u8],
     block: &[u16],
@@ -393,16 +219,54 @@ fn meshed(
     y: u32,
     z: u32,
     faces: [OrientedBlockFace; 6],
+    bytes: usize,
+    numbers: usize,
+) {
+    let mut visited = [255u8; 1025];
+    let mut out = [9u32; 61];
+    let shape = UVec3 { x, y, z };
+    show::text(name);
+    cut_to(block, shape, faces, bytes, &mut visited, numbers, &mut out);
+}
+
+// Lends so much of both buffers.
+fn cut_to(
+    block: &[u16],
+    shape: UVec3,
+    faces: [OrientedBlockFace; 6],
+    bytes: usize,
+    visited: &mut [u8],
+    numbers: usize,
+    out: &mut [u32],
+) {
+    if bytes > visited.len() {
+        return;
+    }
+    if numbers > out.len() {
+        return;
+    }
+    lent(
+        block,
+        shape,
+        faces,
+        &mut visited[..bytes],
+        &mut out[..numbers],
+    );
+}
+
+// The answer, the visited bytes and the whole output.
+fn lent(
+    block: &[u16],
+    shape: UVec3,
+    faces: [OrientedBlockFace; 6],
     visited: &mut [u8],
     out: &mut [u32],
 ) {
-    show::text(name);
-    let shape = UVec3 { x, y, z };
     let min = UVec3 { x: 0, y: 0, z: 0 };
     let max = UVec3 {
-        x: show::last(x),
-        y: show::last(y),
-        z: show::last(z),
+        x: show::last(shape.x),
+        y: show::last(shape.y),
+        z: show::last(shape.z),
     };
     let answer = greedy::greedy_quads(block, shape, min, max, faces, &mut *visited, &mut *out);
     answered(answer);
@@ -411,20 +275,8 @@ fn meshed(
 
 fn answered(answer: greedy::GreedyAnswer) {
     show::text(b", greedy:");
-    if answer.refusal != 0 {
-        show::refused(answer.refusal);
-        show::text(b" at ");
-        io::print_decimal(STDOUT_FILENO, answer.place);
-        show::text(b",");
-    }
-    show::text(b" counts");
     let counts = answer.counts;
-    show::count(counts[0]);
-    show::count(counts[1]);
-    show::count(counts[2]);
-    show::count(counts[3]);
-    show::count(counts[4]);
-    show::count(counts[5]);
+    show::answer(answer.refusal, answer.place, counts);
     show::text(b", tests");
     show::count(answer.tests);
 }

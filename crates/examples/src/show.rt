@@ -34,6 +34,23 @@ pub fn last(n: u32) -> u32 {
     n - 1
 }
 
+// What a mesher answers: its refusal, if it has one, and its six counts.
+pub fn answer(refusal: u32, place: u64, counts: [u64; 6]) {
+    if refusal != 0 {
+        refused(refusal);
+        text(b" at ");
+        io::print_decimal(STDOUT_FILENO, place);
+        text(b",");
+    }
+    text(b" counts");
+    count(counts[0]);
+    count(counts[1]);
+    count(counts[2]);
+    count(counts[3]);
+    count(counts[4]);
+    count(counts[5]);
+}
+
 // All numbers of an output.
 pub fn numbers(out: &[u32]) {
     let mut k: usize = 0;

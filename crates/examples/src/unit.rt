@@ -4,13 +4,13 @@ use crate::show;
 use geometry::axis::SignedAxis;
 use geometry::face::OrientedBlockFace;
 use geometry::vector::UVec3;
-use libc::STDOUT_FILENO;
 
 pub fn run() {
     one_voxel();
     two_voxels(b"E7 T7 T7", 16391);
     two_voxels(b"E8 O7 T7", 32775);
     spans();
+    boxes();
     refusals();
     caller();
 }
@@ -91,6 +91,27 @@ fn spans() {
     meshed(b"E13 axis 257", &long, 257, 2, 2, &mut out);
 }
 
+// A box in the middle of a shape of opaque voxels, from (1,1,1) to (4,4,3), whose interior has four
+// voxels: (2,2,2), which shows a face to the empty (2,3,2) and to the empty (2,2,3); (3,2,2), to the
+// translucent (4,2,2); (2,3,2) itself, to none; and (3,3,2), to (2,3,2) and to the empty (3,3,3).
+// Outside the box (0,0,0) is bad, and so is a voxel that is lent past the shape.
+fn boxes() {
+    let mut block = [32775u16; 126];
+    block[0] = 49152;
+    block[64] = 16391;
+    block[67] = 0;
+    block[87] = 0;
+    block[93] = 0;
+    block[125] = 49152;
+    let mut out = [9u32; 16];
+    show::text(b"a box in the middle of 5x5x5");
+    let min = UVec3 { x: 1, y: 1, z: 1 };
+    let max = UVec3 { x: 4, y: 4, z: 3 };
+    let shape = UVec3 { x: 5, y: 5, z: 5 };
+    let answer = simple::visible_block_faces(&block, shape, min, max, six(), &mut out);
+    answered(answer, &out);
+}
+
 // A refused call touches nothing: too few voxels, and a bad voxel on the boundary.
 fn refusals() {
     let mut block = [32775u16; 27];
@@ -103,7 +124,6 @@ fn refusals() {
 // A block whose box covers the whole shape: the answer, and the whole output.
 fn meshed(name: &[u8], block: &[u16], x: u32, y: u32, z: u32, out: &mut [u32]) {
     show::text(name);
-    show::text(b", unit:");
     let shape = UVec3 { x, y, z };
     let min = UVec3 { x: 0, y: 0, z: 0 };
     let max = UVec3 {
@@ -112,20 +132,14 @@ fn meshed(name: &[u8], block: &[u16], x: u32, y: u32, z: u32, out: &mut [u32]) {
         z: show::last(z),
     };
     let answer = simple::visible_block_faces(block, shape, min, max, six(), &mut *out);
-    if answer.refusal != 0 {
-        show::refused(answer.refusal);
-        show::text(b" at ");
-        io::print_decimal(STDOUT_FILENO, answer.place);
-        show::text(b",");
-    }
-    show::text(b" counts");
+    answered(answer, out);
+}
+
+// The answer, and the whole output.
+fn answered(answer: simple::UnitAnswer, out: &[u32]) {
+    show::text(b", unit:");
     let counts = answer.counts;
-    show::count(counts[0]);
-    show::count(counts[1]);
-    show::count(counts[2]);
-    show::count(counts[3]);
-    show::count(counts[4]);
-    show::count(counts[5]);
+    show::answer(answer.refusal, answer.place, counts);
     show::text(b", out");
     show::numbers(out);
     show::end();
