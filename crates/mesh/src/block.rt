@@ -1,21 +1,25 @@
 // Reading a block of voxels from standard input.
 use crate::say;
 use crate::space;
+use geometry::LARGEST_AXIS;
 use libc::STDIN_FILENO;
 
 // The most voxels that this command takes.
 pub const MOST_VOXELS: u32 = 262144;
 
-// How many voxels a block has, or one more than this command takes where an axis is above 256.
+// One more.
+const TOO_MANY: u32 = MOST_VOXELS + 1;
+
+// How many voxels a block has, or too many where an axis is longer than any may be.
 pub fn size(x: u32, y: u32, z: u32) -> u32 {
-    if x > 256 {
-        return 262145;
+    if x > LARGEST_AXIS {
+        return TOO_MANY;
     }
-    if y > 256 {
-        return 262145;
+    if y > LARGEST_AXIS {
+        return TOO_MANY;
     }
-    if z > 256 {
-        return 262145;
+    if z > LARGEST_AXIS {
+        return TOO_MANY;
     }
     x * y * z
 }
