@@ -1,7 +1,7 @@
 -- What checks 1 to 5 leave when they pass: the box lies in the shape, spans two voxels or more on each axis, and every voxel was lent. This is the one place where
 -- X·Y·Z ≤ 16,777,216 comes from the largest axis.
 use mathlib.Core.Bool.{Bool, false}
-use mathlib.Core.List.{List, _++_}
+use mathlib.Core.List.{List, [], _∷_, _++_, map}
 use mathlib.Core.Path.{_≡_, refl, _∙_}
 use Prim.Native.Nat.{ℕ, _+_, _-_, _*_, _%_, _≤_, _<_}
 use native.Mathlib.Nat.{mul-one, mul-le-mul, mul-le-mul-left, mul-le-mul-right, one-mul, zero-mul, add-mul, mod-eq-of-lt}
@@ -12,7 +12,7 @@ use Rattle.geometry.specs.declared.axis.Axis.{Axis}
 use Rattle.geometry.specs.declared.axis.Axis.the-variants.{X, Y, Z}
 use Rattle.geometry.specs.Point.{Point, at, along}
 use Rattle.geometry.specs.Quad.{largestAxis}
-use Rattle.geometry.specs.Refusal.{accepted, checked, atPlace0}
+use Rattle.geometry.specs.Refusal.{accepted, Check, checked, atPlace0}
 use Rattle.geometry.proofs.Refusals.{split, first-passes, rest-accepts}
 use Rattle.voxels.specs.Shape.{size, index, stride, InShape}
 use Rattle.voxels.specs.Extent.{box, scan}
@@ -152,13 +152,20 @@ module _ (shape : Point) (lent : ℕ) (min max : Point) (h : Held shape lent min
     last = omega (arith, h .small, stride-small Z, add-mul (max .z - min .z) 1 (stride shape Z), one-mul (stride shape Z), zero-mul (stride shape Y), at-below 0 0 (max .z - min .z) (omega arith) (omega arith) (omega arith));
   }
 
-  -- The checks of the box's voxels, by their indices.
-  pub box-flat : (voxels : List ℕ)
-      → badVoxels voxels shape min max ≡ slices (badAt voxels) (max .x - min .x + 1) (stride shape Y) (max .y - min .y + 1) (stride shape Z) (max .z - min .z + 1) (index shape min)
-  unfolding badVoxels along
-  box-flat voxels =
+  -- A check of each voxel of the box, by the voxels' indices;
+  pub each-flat : (ask : ℕ → Check)
+      → map (λ (p : Point). ask (index shape p)) (scan (box min max))
+      ≡ slices (λ (i : ℕ). ask i ∷ []) (max .x - min .x + 1) (stride shape Y) (max .y - min .y + 1) (stride shape Z) (max .z - min .z + 1) (index shape min)
+  unfolding along
+  each-flat ask =
       let x : max .x + 1 - min .x ≡ max .x - min .x + 1 = omega (arith, h .spans X) in
       let y : max .y + 1 - min .y ≡ max .y - min .y + 1 = omega (arith, h .spans Y) in
       let z : max .z + 1 - min .z ≡ max .z - min .z + 1 = omega (arith, h .spans Z) in
-      map-gathered (λ (p : Point). badVoxelAt voxels (index shape p)) (scan (box min max))
-      ∙ rw (x, y, z) at (flat-scan shape (λ (p : Point). badAt voxels (index shape p)) (badAt voxels) (box min max) (λ p i. refl))
+      map-gathered (λ (p : Point). ask (index shape p)) (scan (box min max))
+      ∙ rw (x, y, z) at (flat-scan shape (λ (p : Point). ask (index shape p) ∷ []) (λ (i : ℕ). ask i ∷ []) (box min max) (λ p i. refl))
+
+  -- that of refusal 8.
+  pub box-flat : (voxels : List ℕ)
+      → badVoxels voxels shape min max ≡ slices (badAt voxels) (max .x - min .x + 1) (stride shape Y) (max .y - min .y + 1) (stride shape Z) (max .z - min .z + 1) (index shape min)
+  unfolding badVoxels
+  box-flat voxels = each-flat (badVoxelAt voxels)

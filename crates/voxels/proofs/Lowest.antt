@@ -1,4 +1,4 @@
--- Refusal 8 as its reader has it: its place is the lowest index of a bad voxel in the box, and where it is not given no voxel of the box is bad.
+-- A check of each voxel of the box as its reader has it: its place is the lowest index of a voxel that it applies to, and where nothing is refused it applies to none. Refusal 8 is such a check.
 use mathlib.Core.Bool.{Bool, true, false, false≢true}
 use mathlib.Core.List.{List, [], _∷_, _++_, map}
 use mathlib.Core.Path.{_≡_, refl, sym, _∙_, ap}
@@ -16,10 +16,10 @@ use Rattle.voxels.specs.Shape.{index, stride, field}
 use Rattle.voxels.specs.Extent.{box, interior, scan, every, Inside, Each}
 use Rattle.voxels.specs.Checks.{badVoxelAt, badVoxels}
 use Rattle.voxels.specs.Statements.{LowestBad, NoneBad}
-use Rattle.voxels.specs.Inner.{Held, SoundAround, badAt, row, rows, slices}
+use Rattle.voxels.specs.Inner.{Held, SoundAround, row, rows, slices}
 use Rattle.voxels.proofs.Scan.{each-up, scan-inside, inside-scan}
 use Rattle.voxels.proofs.Voxels.{class-small}
-use Rattle.voxels.proofs.Held.{box-flat}
+use Rattle.voxels.proofs.Held.{each-flat}
 use Rattle.voxels.proofs.Steps.{along-next}
 
 -- ---- refusals apart
@@ -69,23 +69,19 @@ ascend-every d g h (suc n) a =
     let e : a + d + n * d ≡ a + suc n * d = omega (arith, suc-mul n d) in
     ascend-append a (a + d) (a + suc n * d) (g a) (every d (a + d) n g) (h a) (rw e at (ascend-every d g h n (a + d)))
 
--- The voxels of a row do, and those of rows that are not wider than their stride, and those of slices whose rows are not more than theirs.
-module _ (vs : List ℕ) (wide d high e : ℕ) (fits : wide ≤ d) (fit : high * d ≤ e) where
-  ascend-row : (i : ℕ) → Ascend i (i + d) (row (badAt vs) wide i)
+-- What is gathered in a row of voxels does, and in rows that are not wider than their stride, and in slices whose rows are not more than theirs.
+module _ (g : ℕ → List Check) (one : (i : ℕ) → Ascend i (i + 1) (g i)) (wide d high e : ℕ) (fits : wide ≤ d) (fit : high * d ≤ e) where
+  ascend-row : (i : ℕ) → Ascend i (i + d) (row g wide i)
   unfolding row
-  ascend-row i =
-      ascend-wider i (i + wide * 1) (i + d) (every 1 i wide (badAt vs)) (omega (arith, mul-one wide))
-      (ascend-every 1 (badAt vs) (λ i. (omega arith, omega arith)) wide i)
+  ascend-row i = ascend-wider i (i + wide * 1) (i + d) (every 1 i wide g) (omega (arith, mul-one wide)) (ascend-every 1 g one wide i)
 
-  ascend-rows : (i : ℕ) → Ascend i (i + e) (rows (badAt vs) wide d high i)
+  ascend-rows : (i : ℕ) → Ascend i (i + e) (rows g wide d high i)
   unfolding rows
-  ascend-rows i =
-      ascend-wider i (i + high * d) (i + e) (every d i high (row (badAt vs) wide)) (omega arith)
-      (ascend-every d (row (badAt vs) wide) ascend-row high i)
+  ascend-rows i = ascend-wider i (i + high * d) (i + e) (every d i high (row g wide)) (omega arith) (ascend-every d (row g wide) ascend-row high i)
 
-  ascend-slices : (deep i : ℕ) → Ascend i (i + deep * e) (slices (badAt vs) wide d high e deep i)
+  ascend-slices : (deep i : ℕ) → Ascend i (i + deep * e) (slices g wide d high e deep i)
   unfolding slices
-  ascend-slices deep i = ascend-every e (rows (badAt vs) wide d high) ascend-rows deep i
+  ascend-slices deep i = ascend-every e (rows g wide d high) ascend-rows deep i
 
 -- ---- the first is the lowest
 
@@ -130,37 +126,56 @@ module _ {A : Type 0} (c : A → Check) where
   of-each P [] h = tt
   of-each P (a ∷ l) h = (h .0, of-each P l (h .1))
 
--- ---- refusal 8
+-- ---- a check of each voxel of the box, its index as its place
 
-module _ (shape : Point) (lent : ℕ) (min max : Point) (h : Held shape lent min max) (voxels : List ℕ) where
-  ascends : Ascend (index shape min) (index shape min + (max .z - min .z + 1) * stride shape Z) (badVoxels voxels shape min max)
+module _ (shape : Point) (lent : ℕ) (min max : Point) (h : Held shape lent min max) (ask : ℕ → Check) (own : (i : ℕ) → ask i .place ≡ i) where
+  abbrev here : Point → Check
+  here p = ask (index shape p)
+
+  ascends : Ascend (index shape min) (index shape min + (max .z - min .z + 1) * stride shape Z) (map here (scan (box min max)))
   unfolding stride along
   ascends =
-      rw (box-flat shape lent min max h voxels)
-      (ascend-slices voxels (max .x - min .x + 1) (stride shape Y) (max .y - min .y + 1) (stride shape Z)
+      rw (each-flat shape lent min max h ask)
+      (ascend-slices (λ (i : ℕ). ask i ∷ []) (λ i. (omega (arith, own i), omega (arith, own i))) (max .x - min .x + 1) (stride shape Y) (max .y - min .y + 1) (stride shape Z)
       (omega (arith, h .within X, h .spans X))
       (omega (arith, mul-comm (shape .x) (shape .y), mul-le-mul-right {m = max .y - min .y + 1} {n = shape .y} (shape .x) (omega (arith, h .within Y, h .spans Y))))
       (max .z - min .z + 1) (index shape min))
 
+  -- Where it refuses, it applies to a voxel in the box whose index is the place,
+  pub asked-applies : (n k : ℕ) → checked (map here (scan (box min max))) ≡ refused n k
+      → (p : Point) × Inside (box min max) p × (here p .applies ≡ true) × (here p .number ≡ n) × (here p .place ≡ k)
+  asked-applies n k e = found here (Inside (box min max)) (scan (box min max)) n k (scan-inside (box min max)) e
+
+  -- and to none in the box with a lower index.
+  pub asked-lowest : (n k : ℕ) → checked (map here (scan (box min max))) ≡ refused n k → (p : Point) → Inside (box min max) p → here p .applies ≡ true → k ≤ here p .place
+  asked-lowest n k e = inside-scan _ (box min max) (of-each here _ (scan (box min max)) (first-lowest _ _ _ n k ascends e))
+
+  -- Where it does not refuse it applies to no voxel of the box.
+  pub asked-none : checked (map here (scan (box min max))) ≡ accepted tt → (p : Point) → Inside (box min max) p → here p .applies ≡ false
+  asked-none e = inside-scan _ (box min max) (none here (scan (box min max)) e)
+
+-- ---- refusal 8
+
+module _ (shape : Point) (lent : ℕ) (min max : Point) (h : Held shape lent min max) (voxels : List ℕ) where
   -- Its place is the lowest index of a bad voxel in the box.
   pub lowest-index : (n k : ℕ) → checked (badVoxels voxels shape min max) ≡ refused n k → (n ≡ 8) × LowestBad shape min max voxels k
   unfolding badVoxels field
   lowest-index n k e =
-      let it = found (λ (p : Point). badVoxelAt voxels (index shape p)) (Inside (box min max)) (scan (box min max)) n k (scan-inside (box min max)) e in (
+      let it = asked-applies shape lent min max h (badVoxelAt voxels) (λ i. refl) n k e in (
         sym (it .3),
         record {
           voxel = it .0;
           inside = it .1;
           is-bad = it .2;
           index-is = it .4;
-          lowest = inside-scan _ (box min max) (of-each (λ (p : Point). badVoxelAt voxels (index shape p)) _ (scan (box min max)) (first-lowest _ _ _ n k ascends e));
+          lowest = asked-lowest shape lent min max h (badVoxelAt voxels) (λ i. refl) n k e;
         },
       )
 
   -- Where it is not given no voxel of the box is bad.
   pub none-bad : checked (badVoxels voxels shape min max) ≡ accepted tt → NoneBad shape min max voxels
   unfolding badVoxels field
-  none-bad e = inside-scan _ (box min max) (none (λ (p : Point). badVoxelAt voxels (index shape p)) (scan (box min max)) e)
+  none-bad e = asked-none shape lent min max h (badVoxelAt voxels) (λ i. refl) e
 
   -- So, where voxels are numbers of 16 bits, every voxel of the box around the interior is of one of the other classes.
   pub sound-around : checked (badVoxels voxels shape min max) ≡ accepted tt → ((i : ℕ) → getD voxels i 0 < 65_536) → SoundAround voxels shape (interior min max)
