@@ -1,14 +1,14 @@
 -- Demand 3, carried to the call: from the contract of `greedy_quads` alone, what every call that answers 0 leaves, and what refusal 9 leaves.
-use mathlib.Core.Bool.{true, false, _&&_}
+use mathlib.Core.Bool.{Bool, true, false, not, _&&_}
 use mathlib.Core.List.{List, [], _∷_, _++_, map, append-assoc}
 use mathlib.Core.Path.{_≡_, refl, sym, _∙_, ap}
 use Prim.Native.Nat.{ℕ, zero, suc, _+_, _-_, _*_, _≤_, _<_}
 use native.Mathlib.Nat.{suc-mul, div-mul-le-self}
 use native.Mathlib.Omega.{arith}
-use lib.Dec.{ltb, leb}
+use lib.Dec.{eqb, ltb}
 use lib.ListN.{length, getD, take, drop, replicate, length-append, length-drop, take-append-drop}
 use lib.Seq.{drop-at}
-use borrow.Author.Tests.{ltb-true, ltb-false, leb-true, leb-false}
+use borrow.Author.Tests.{ltb-true, ltb-false}
 use Rattle.geometry.specs.declared.axis.Axis.{Axis}
 use Rattle.geometry.specs.declared.quad.UnorientedQuad.{UnorientedQuad}
 use Rattle.geometry.specs.declared.face.OrientedBlockFace.{OrientedBlockFace}
@@ -29,7 +29,7 @@ use Rattle.voxels.proofs.Groups.{take-whole, length-take-at}
 use Rattle.greedy.specs.declared.GreedyAnswer.{GreedyAnswer}
 use Rattle.greedy.specs.Group.{contains}
 use Rattle.greedy.specs.Greedy.{Listed, listed, listedGroup, quadNumbers, numbersOf, greedyGroup, greedyGroups, greedyTests, greedyAnswer, GreedyOutcome, outcome, greedyQuads}
-use Rattle.greedy.specs.Demand.{covers, Cover, Areas, Tests, Consistent}
+use Rattle.greedy.specs.Demand.{covers, Cover, Areas, Tests, Consistent, allPass}
 use Rattle.greedy.specs.Call.{quadFrom, quadsIn, groupsIn, Matched, Meshed, TestsBounded, CallHolds, firstOf, ruleGroups, PartMeshed, NineHolds}
 use contract.Lifetimes
 use borrow.Fn.World
@@ -39,6 +39,7 @@ use Rattle.greedy.proofs.greedy_quads
 use Rattle.greedy.proofs.greedy_quads.Kinds as greedy-quads-kinds
 use Rattle.greedy.proofs.greedy_quads.Reads as greedy-quads
 use Rattle.greedy.proofs.Demand.{greedy-cover, greedy-areas, greedy-tests}
+use Rattle.greedy.proofs.Laid.{all-each}
 use Rattle.greedy.proofs.Counts.{howMany-append}
 use Rattle.greedy.specs.Drawn.{GroupDrawn}
 use Rattle.greedy.proofs.Drawn.{greedy-drawn}
@@ -83,9 +84,13 @@ back (q ∷ l) = ap (λ (m : List UnorientedQuad). q ∷ m) (back l)
 
 -- ---- the numbers of refusals
 
--- The numbers of a mesher's entry checks are 1 to 8.
+-- A number that an entry check may give: neither 0, by which an accepted call is known, nor 9, which comes after the entry.
+abbrev entryNumber : ℕ → Bool
+entryNumber n = not (eqb n 0) && not (eqb n 9)
+
+-- A check that gives such a number.
 abbrev Entry : Check → Type 0
-Entry c = (1 ≤ c .number) × (c .number ≤ 8)
+Entry c = entryNumber (c .number) ≡ true
 
 -- A refusal's number, and 1 for a refusal.
 abbrev number-of : Answer (Unit {0}) → ℕ
@@ -96,7 +101,7 @@ abbrev is-refused : Answer (Unit {0}) → ℕ
 is-refused (accepted u) = 0
 is-refused (refused n p) = 1
 
-refused-number : (cs : List Check) → Each Entry cs → {n p : ℕ} → checked cs ≡ refused n p → (1 ≤ n) × (n ≤ 8)
+refused-number : (cs : List Check) → Each Entry cs → {n p : ℕ} → checked cs ≡ refused n p → entryNumber n ≡ true
 unfolding Each answer
 refused-number [] h e = let none : _≡_ {A = ℕ} 0 1 = ap is-refused e in absurd (omega arith)
 refused-number (c ∷ cs) h {n} {p} e =
@@ -112,16 +117,15 @@ each-map P f h (a ∷ l) = (h a, each-map P f h l)
 faces-numbered : (k : ℕ) (fs : List OrientedBlockFace) → Each Entry (badFacesFrom k fs)
 unfolding badFacesFrom Each
 faces-numbered k [] = tt
-faces-numbered k (f ∷ fs) = ((omega arith, omega arith), faces-numbered (k + 1) fs)
+faces-numbered k (f ∷ fs) = (refl, faces-numbered (k + 1) fs)
 
 checks-numbered : (voxels : List ℕ) (shape min max : Point) (faces : List OrientedBlockFace) (lent : ℕ) → Each Entry (greedyChecks voxels shape min max faces lent)
-unfolding Each boundsChecks badVoxels
+unfolding Each allPass boundsChecks badVoxels
 checks-numbered voxels shape min max faces lent =
     let bounds : List Check = boundsChecks (length voxels) shape min max in
-    let of-bounds : Each Entry (boundsChecks (length voxels) shape min max) =
-    ((omega arith, omega arith), ((omega arith, omega arith), ((omega arith, omega arith), ((omega arith, omega arith), ((omega arith, omega arith), ((omega arith, omega arith), ((omega arith, omega arith), ((omega arith, omega arith), ((omega arith, omega arith), ((omega arith, omega arith), ((omega arith, omega arith), ((omega arith, omega arith), ((omega arith, omega arith), tt))))))))))))) in
-    let of-visited : Each Entry (fewVisited lent shape) = ((omega arith, omega arith), tt) in
-    let of-voxels : Each Entry (badVoxels voxels shape min max) = each-map Entry (λ (p : Point). badVoxelAt voxels (index shape p)) (λ p. (omega arith, omega arith)) (scan (box min max)) in
+    let of-bounds : Each Entry bounds = all-each (λ (c : Check). entryNumber (c .number)) (boundsChecks (length voxels) shape min max) refl in
+    let of-visited : Each Entry (fewVisited lent shape) = (refl, tt) in
+    let of-voxels : Each Entry (badVoxels voxels shape min max) = each-map Entry (λ (p : Point). badVoxelAt voxels (index shape p)) (λ p. refl) (scan (box min max)) in
     each-append Entry (bounds ++ badFaces faces ++ fewVisited lent shape) (badVoxels voxels shape min max)
     (each-append Entry (bounds ++ badFaces faces) (fewVisited lent shape) (each-append Entry bounds (badFaces faces) of-bounds (faces-numbered 0 faces)) of-visited) of-voxels
 
@@ -208,7 +212,7 @@ module _ (voxels : List ℕ) (shape min max : Point) (faces : List OrientedBlock
   out-is = ap (λ (o : GreedyOutcome). o .out) promised
 
   -- An answer whose number no entry check has comes from an accepted entry.
-  passed : (m : ℕ) → r .refusal ≡ m → (1 ≤ m → m ≤ 8 → ⊥) → checked checks ≡ accepted tt
+  passed : (m : ℕ) → r .refusal ≡ m → entryNumber m ≡ false → checked checks ≡ accepted tt
   passed m is other = by (checked checks) refl
     where
       by : (x : Answer (Unit {0})) → x ≡ checked checks → checked checks ≡ accepted tt
@@ -216,7 +220,8 @@ module _ (voxels : List ℕ) (shape min max : Point) (faces : List OrientedBlock
       by (refused n p) e =
           let k = refused-number checks (checks-numbered voxels shape min max faces (length bytes)) (sym e) in
           let number : r .refusal ≡ n = rw (sym e) at (ap (λ (a : GreedyAnswer). a .refusal) answer-is) in
-          absurd (other (omega arith) (omega arith))
+          let clash : true ≡ false = sym k ∙ ap entryNumber (sym number ∙ is) ∙ other in
+          cc
 
   module _ (entered : checked checks ≡ accepted tt) where
     made : r ≡ greedyAnswer (greedyTests inner v faces) (lay quadNumbers numbersOf groups was .answer)
@@ -229,7 +234,7 @@ module _ (voxels : List ℕ) (shape min max : Point) (faces : List OrientedBlock
   -- Every call that answers 0 has demand 3.
   pub outcome-holds : r .refusal ≡ 0 → CallHolds voxels shape min max faces r out
   outcome-holds is-zero =
-      let entered = passed 0 is-zero (λ l h. omega arith) in
+      let entered = passed 0 is-zero refl in
       split (ltb (capacity quadNumbers (length was)) (length (joined groups)))
       (λ t.
       let nine : r .refusal ≡ 9 = ap (λ (a : GreedyAnswer). a .refusal) (made entered ∙ ap (greedyAnswer (greedyTests inner v faces)) (lay-many quadNumbers numbersOf groups was (ltb-true _ _ t))) in
@@ -250,7 +255,7 @@ module _ (voxels : List ℕ) (shape min max : Point) (faces : List OrientedBlock
   -- And what refusal 9 leaves.
   pub outcome-nine : r .refusal ≡ 9 → NineHolds voxels shape min max faces r out
   outcome-nine is-nine =
-      let entered = passed 9 is-nine (λ l h. omega arith) in
+      let entered = passed 9 is-nine refl in
       let room : ℕ = capacity quadNumbers (length was) in
       split (ltb room (length (joined groups)))
       (λ t.

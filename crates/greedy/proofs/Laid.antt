@@ -68,7 +68,7 @@ module _ (f : OrientedBlockFace) where
 
 -- ---- the test for admissible picks
 
-all-each : {A : Type 0} (test : A → Bool) (l : List A) → allPass test l ≡ true → Each (λ (a : A). test a ≡ true) l
+pub all-each : {A : Type 0} (test : A → Bool) (l : List A) → allPass test l ≡ true → Each (λ (a : A). test a ≡ true) l
 unfolding allPass Each
 all-each test [] h = tt
 all-each test (a ∷ l) h = let both = both-true (test a) _ h in (both .0, all-each test l (both .1))

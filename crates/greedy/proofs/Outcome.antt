@@ -28,9 +28,9 @@ use Rattle.greedy.specs.Greedy.{Listed, quadNumbers, numbersOf, greedyGr
 use Rattle.greedy.specs.Inner.{Accepted, MadeFaces, laidOutcome}
 use Rattle.greedy.proofs.Faces.{cleared-again}
 
--- A listed quad has five numbers.
-pub five : (l : Listed) → length (numbersOf l) ≡ quadNumbers
-five l = refl
+-- A listed quad has so many numbers.
+pub numbers-length : (l : Listed) → length (numbersOf l) ≡ quadNumbers
+numbers-length l = refl
 
 -- What stands past the end of a list of faces.
 abbrev pub noFace : OrientedBlockFace
@@ -61,16 +61,16 @@ module _ (n : ℕ) (groups : List (List Listed)) (sum : ℕ) (wasMarks was marks
   pub many-outcome : (r : GreedyAnswer) (bytes : List ℕ) → bytes ≡ overwritten (replicate n 0) marks → room < listed → r ≡ greedyAnswer 0 (refused 9 room)
       → outcome r bytes out ≡ laidOutcome sum (overwritten (replicate n 0) wasMarks) (lay quadNumbers numbersOf groups was)
   many-outcome r bytes cleared h e =
-      let a : r ≡ greedyAnswer sum (lay quadNumbers numbersOf groups was .answer) = e ∙ ap (greedyAnswer sum) (laid-many quadNumbers numbersOf (omega arith) five groups was out listed counts (made .made) room is h) in
-      rw (a, cleared, cleared-again n marks wasMarks (made .rest), laid-out quadNumbers numbersOf (omega arith) five groups was out listed counts (made .made) room is)
+      let a : r ≡ greedyAnswer sum (lay quadNumbers numbersOf groups was .answer) = e ∙ ap (greedyAnswer sum) (laid-many quadNumbers numbersOf (omega arith) numbers-length groups was out listed counts (made .made) room is h) in
+      rw (a, cleared, cleared-again n marks wasMarks (made .rest), laid-out quadNumbers numbersOf (omega arith) numbers-length groups was out listed counts (made .made) room is)
 
   -- and what fits is counted.
   pub fit-outcome : (bytes : List ℕ) → bytes ≡ overwritten (replicate n 0) marks → listed ≤ room
       → outcome (record { refusal = 0; place = 0; counts = counts; tests = tests }) bytes out ≡ laidOutcome sum (overwritten (replicate n 0) wasMarks) (lay quadNumbers numbersOf groups was)
   fit-outcome bytes cleared h =
       let a : record { refusal = 0; place = 0; counts = counts; tests = tests } ≡ greedyAnswer sum (lay quadNumbers numbersOf groups was .answer) =
-      ap (λ (t : ℕ). greedyAnswer t (accepted counts)) (made .tests-are) ∙ ap (greedyAnswer sum) (laid-counts quadNumbers numbersOf (omega arith) five groups was out listed counts (made .made) room is h) in
-      rw (a, cleared, cleared-again n marks wasMarks (made .rest), laid-out quadNumbers numbersOf (omega arith) five groups was out listed counts (made .made) room is)
+      ap (λ (t : ℕ). greedyAnswer t (accepted counts)) (made .tests-are) ∙ ap (greedyAnswer sum) (laid-counts quadNumbers numbersOf (omega arith) numbers-length groups was out listed counts (made .made) room is h) in
+      rw (a, cleared, cleared-again n marks wasMarks (made .rest), laid-out quadNumbers numbersOf (omega arith) numbers-length groups was out listed counts (made .made) room is)
 
 -- ---- the entry
 

@@ -27,6 +27,7 @@ use Rattle.greedy.specs.declared.face_scan.FaceScan.{FaceScan}
 use Rattle.greedy.specs.Group.{sliceAt, sweep, passes, Choice, State, scanned, swept, fresh, group, Pick, roomU, roomV}
 use Rattle.greedy.specs.Merger.{voxelMerger}
 use Rattle.greedy.specs.Greedy.{listed, quadNumbers, numbersOf, greedyGroup}
+use Rattle.greedy.specs.Demand.{groupFrom}
 use Rattle.greedy.specs.Inner.{steps, quadAt, faster, slower, spot, spanOf, faceScan, Scanned, laidAt, scannedAt, rowAlong, sliceAlong, slicesAlong}
 use Rattle.greedy.proofs.Loops.{quad-wide, quad-high}
 use Rattle.greedy.proofs.Spread.{spread, spread-index, spread-inside}
@@ -156,15 +157,20 @@ module _ (lent : ℕ) (shape : Point) (inner : Extent) (entered : Entered lent s
         (λ e. rw (needs ∙ e, scannedAt, e, scanned) laid-same)
         (λ e. rw (needs ∙ e, scannedAt, e, scanned) (record { tells = same .tells; long = same .long; rest = same .rest; lists = same .lists; adds = omega (arith, same .adds) }))
 
-  -- The scan of all slices makes the group.
-  pub group-same : (s : Scanned) → Same s fresh → Same (slicesAlong vs c s (index shape (inner .minimum))) (greedyGroup inner v f)
-  unfolding slicesAlong sliceAlong rowAlong faceScan spanOf greedyGroup group sweep swept
-  group-same s start =
+  -- The scan of all slices lays quads on, from any start,
+  pub group-on : (s : Scanned) (t : State) → Same s t → Same (slicesAlong vs c s (index shape (inner .minimum))) (groupFrom f v inner (voxelMerger f v) t)
+  unfolding slicesAlong sliceAlong rowAlong faceScan spanOf sweep swept
+  group-on s t start =
       let n : Axis = nAxis f in
       let lo : Point = inner .minimum in
       let choice : Choice = voxelMerger f v in
-      steps-swept f v inner choice Same (stride shape n) _ _ _ (along n lo) (index shape lo) s fresh (λ k s t hk r.
+      steps-swept f v inner choice Same (stride shape n) _ _ _ (along n lo) (index shape lo) s t (λ k s t hk r.
       rw (slice-scan n inner (along n lo + k))
       (steps-swept f v inner choice Same (stride shape (slower n)) _ _ _ (along (slower n) lo) (index shape lo + k * stride shape n) s t (λ j s t hj r.
       steps-swept f v inner choice Same (stride shape (faster n)) _ _ _ (along (faster n) lo) (index shape lo + k * stride shape n + j * stride shape (slower n)) s t (λ i s t hi r.
       rw (spot-index shape n lo k j i) at (scanned-same s t r (spot n (along n lo + k) (along (slower n) lo + j) (along (faster n) lo + i)) (spot-inside n inner k j i hk hj hi))) r) r)) start
+
+  -- and from nothing it makes the group.
+  pub group-same : (s : Scanned) → Same s fresh → Same (slicesAlong vs c s (index shape (inner .minimum))) (greedyGroup inner v f)
+  unfolding greedyGroup group
+  group-same s start = group-on s fresh start

@@ -1,4 +1,4 @@
--- `push` meets its contract: where there is room the five numbers are written, and else nothing is.
+-- `push` meets its contract: where there is room the numbers are written, and else nothing is.
 use borrow.Author.Needs.{needs}
 use mathlib.Core.Path.{sym}
 use native.Mathlib.Omega.{arith}
