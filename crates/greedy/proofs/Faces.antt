@@ -27,7 +27,7 @@ use Rattle.voxels.proofs.Entered.{below, entered-stride, minimum-index, bound-w
 use Rattle.greedy.specs.declared.face_scan.Span.{Span}
 use Rattle.greedy.specs.declared.face_scan.FaceScan.{FaceScan}
 use Rattle.greedy.specs.Group.{visited, State, fresh, roomU, roomV}
-use Rattle.greedy.specs.Greedy.{quadNumbers, numbersOf, greedyGroup}
+use Rattle.greedy.specs.Greedy.{quadNumbers, numbersOf, greedyGroup, listedGroup}
 use Rattle.greedy.specs.Inner.{Touches, RowReady, QuadReady, faster, slower, spot, spanOf, faceScan, Scanned, progress, SpotReady, RowScan, SliceScan, SlicesScan, slicesAlong, voxelTests, Accepted, Made, MadeFace}
 use Rattle.greedy.proofs.Spread.{spread, spread-n, spread-u, spread-v, spread-index, spread-inside}
 use Rattle.greedy.proofs.Sweeps.{spot-index, spot-inside, Same, group-same}
@@ -209,7 +209,7 @@ module _ (lent marked : ℕ) (shape : Point) (inner : Extent) (accepted : Accept
     -- What the scan makes of them is the face's group.
     pub face-made : (marks′ out′ : List ℕ) (listed′ tests′ : ℕ)
         → Made (slicesAlong vs c (progress (overwritten (replicate (size shape) 0) marks) out listed tests) (index shape (inner .minimum))) (tests + c .slices .count * (c .rows .count * (c .row .count * voxelTests))) marks′ out′ listed′ tests′
-        → MadeFace (size shape) (greedyGroup inner (field shape vs) f) marks out listed tests marks′ out′ listed′ tests′
+        → MadeFace (size shape) (listedGroup inner (field shape vs) f) (greedyGroup inner (field shape vs) f .tests) marks out listed tests marks′ out′ listed′ tests′
     face-made marks′ out′ listed′ tests′ made =
         let same = group-same lent shape inner entered f vs (drop (size shape) marks) (output out listed) tests _ start-same in
         record {
@@ -232,6 +232,6 @@ module _ (lent marked : ℕ) (shape : Point) (inner : Extent) (accepted : Accept
     pub scan-made : (n : ℕ) → n ≡ size shape → (vs marks : List ℕ) → length marks ≡ marked → (cleared : List ℕ) → cleared ≡ overwritten (replicate n 0) marks
         → (out : List ℕ) (listed tests : ℕ) (marks′ out′ : List ℕ) (listed′ tests′ : ℕ)
         → Made (slicesAlong vs scan (progress cleared out listed tests) i) (tests + scan .slices .count * (scan .rows .count * (scan .row .count * voxelTests))) marks′ out′ listed′ tests′
-        → MadeFace n (greedyGroup inner (field shape vs) f) marks out listed tests marks′ out′ listed′ tests′
+        → MadeFace n (listedGroup inner (field shape vs) f) (greedyGroup inner (field shape vs) f .tests) marks out listed tests marks′ out′ listed′ tests′
     scan-made n all vs marks long cleared first out listed tests marks′ out′ listed′ tests′ made =
         rw all (face-made vs marks out long listed tests marks′ out′ listed′ tests′ (rw (is, minimum-index lent shape inner entered at-i, first, all) at made))

@@ -18,7 +18,7 @@ use Rattle.voxels.specs.Listing.{Laid}
 use Rattle.voxels.specs.Inner.{mostVoxels, longest, Entered, Output, output, pushed, pushedAll, MadeGroups}
 use Rattle.greedy.specs.declared.face_scan.Span.{Span}
 use Rattle.greedy.specs.declared.face_scan.FaceScan.{FaceScan}
-use Rattle.greedy.specs.Group.{Pick, State}
+use Rattle.greedy.specs.Group.{Pick}
 use Rattle.greedy.specs.Merger.{Walked}
 use Rattle.greedy.specs.Greedy as rule
 use Rattle.greedy.specs.Greedy.{Listed, listed, quadNumbers, numbersOf, greedyAnswer, GreedyOutcome}
@@ -274,10 +274,10 @@ pub record Accepted (voxels marks : ℕ) (shape : Point) (inner : Extent) : Type
 abbrev pub SameFrom : ℕ → List ℕ → List ℕ → Type 0
 SameFrom n was marks = drop n marks ≡ drop n was
 
--- A face's group was made: its quads are listed after those before, its tests are added, and past the shape's voxels no visited byte has changed.
-pub record MadeFace (size : ℕ) (group : State) (wasMarks wasOut : List ℕ) (wasListed wasTests : ℕ) (marks out : List ℕ) (listed tests : ℕ) : Type 0 where
-  pub is : output out listed ≡ pushedAll quadNumbers numbersOf (output wasOut wasListed) (map rule.listed (group .quads))
-  pub tests-are : tests ≡ wasTests + group .tests
+-- A face's group, listed, and its tests were made: the listing stands after those before, the tests are added, and past the shape's voxels no visited byte has changed.
+pub record MadeFace (size : ℕ) (group : List Listed) (groupTests : ℕ) (wasMarks wasOut : List ℕ) (wasListed wasTests : ℕ) (marks out : List ℕ) (listed tests : ℕ) : Type 0 where
+  pub is : output out listed ≡ pushedAll quadNumbers numbersOf (output wasOut wasListed) group
+  pub tests-are : tests ≡ wasTests + groupTests
   pub rest : SameFrom size wasMarks marks
   pub few : listed ≤ tests
   pub bound : tests ≤ wasTests + mostVoxels * voxelTests

@@ -12,7 +12,7 @@ ghost use Rattle.geometry.specs.Refusal as refusal;
 ghost use Rattle.voxels.specs.Shape as shape;
 ghost use Rattle.voxels.specs.Listing as listing;
 ghost use Rattle.voxels.specs.Inner.{mostVoxels, output, pushed};
-ghost use Rattle.greedy.specs.Greedy.{quadNumbers, numbersOf, listed, greedyGroup, greedyGroups, greedyTests, greedyAnswer, outcome, greedyQuads};
+ghost use Rattle.greedy.specs.Greedy.{quadNumbers, numbersOf, listed, greedyGroup, listedGroup, greedyGroups, greedyTests, greedyAnswer, outcome, greedyQuads};
 ghost use Rattle.greedy.specs.Inner.{Touches, needsAt, RowReady, Idle, SpotReady, RowScan, SliceScan, SlicesScan, voxelTests, ampleTests, Made, MadeFace, MadeFaces, Accepted, progress, laidAt, rowAlong, sliceAlong, slicesAlong, laidOutcome};
 
 mod face_scan;
@@ -327,7 +327,7 @@ fn greedy_quads_for_face(
 ) -> Progress
     requires { ⌜ (capacity ≡ listing.capacity quadNumbers (length (now out))) × (before .listed ≤ before .tests) × (before .tests ≤ 6 * mostVoxels * voxelTests) × (marks ≡ shape.size «voxels_shape») ⌝ }
     requires { ⌜ Accepted (length (now voxels)) (length (now visited)) «voxels_shape» interior ⌝ }
-    ensures { λ r. ⌜ MadeFace marks (greedyGroup interior (shape.field «voxels_shape» (now (voxels .entry))) face) (now (visited .entry)) (now (out .entry)) (before .listed) (before .tests) (now (visited .exit)) (now (out .exit)) (r .listed) (r .tests) ⌝ }
+    ensures { λ r. ⌜ MadeFace marks (listedGroup interior (shape.field «voxels_shape» (now (voxels .entry))) face) (greedyGroup interior (shape.field «voxels_shape» (now (voxels .entry))) face .tests) (now (visited .entry)) (now (out .entry)) (before .listed) (before .tests) (now (visited .exit)) (now (out .exit)) (r .listed) (r .tests) ⌝ }
 {
     visited::clear(visited, marks);
     let scan = FaceScan::new(voxels_shape, interior, face);
