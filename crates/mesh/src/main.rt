@@ -16,6 +16,7 @@ mod words;
 
 use geometry::axis::SignedAxis;
 use geometry::face::OrientedBlockFace;
+use greedy::QUAD_NUMBERS;
 use voxels::bounds;
 use voxels::bounds::EntryCheck;
 use words::Job;
@@ -65,7 +66,7 @@ fn mesh_greedy(job: Job, voxels: &[u16]) {
         return;
     }
     let counts = answer.counts;
-    show::groups(out, 5, counts);
+    show::groups(out, QUAD_NUMBERS, counts);
     show::counts(counts);
     show::tests(answer.tests);
 }

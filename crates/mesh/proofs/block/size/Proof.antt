@@ -1,8 +1,9 @@
--- `block::size` does not wrap: three axes of at most 256 have at most 16,777,216 voxels.
+-- `block::size` does not wrap: the product of three axes that are not above the largest fits 32 bits.
 use borrow.Author.Needs.{needs}
 use native.Mathlib.Omega.{arith}
 use native.Mathlib.Nat.{mul-le-mul-right}
 use Prim.Native.Nat.{_*_}
+use Rattle.geometry.specs.Quad.{largestAxis}
 use Rattle.mesh.proofs.block.size.Statement.{statement}
 use Rattle.mesh.proofs.block.size.Tie as tie
 
@@ -16,10 +17,10 @@ returns-3 : tie.Need-returns-3
 returns-3 c = search needs
 
 mul-result : tie.Need-mul-result
-mul-result c = let a = c .before .before .before .args in omega (arith, mul-le-mul-right {m = a .x} {n = 256} (a .y) (omega arith))
+mul-result c = let a = c .before .before .before .args in omega (arith, mul-le-mul-right {m = a .x} {n = largestAxis} (a .y) (omega arith))
 
 mul-result-2 : tie.Need-mul-result-2
-mul-result-2 c = let a = c .before .before .before .args in omega (arith, mul-le-mul-right {m = a .x * a .y} {n = 65536} (a .z) (omega (arith, mul-le-mul-right {m = a .x} {n = 256} (a .y) (omega arith))))
+mul-result-2 c = let a = c .before .before .before .args in omega (arith, mul-le-mul-right {m = a .x * a .y} {n = largestAxis * largestAxis} (a .z) (omega (arith, mul-le-mul-right {m = a .x} {n = largestAxis} (a .y) (omega arith))))
 
 returns-4 : tie.Need-returns-4
 returns-4 c = search needs
