@@ -118,6 +118,11 @@ extern "C" {
 /// The same six faces in the same order, by sign and permutation's number.
 const FACES: [i32; 12] = [-1, 4, -1, 2, -1, 1, 1, 4, 1, 2, 1, 1];
 
+/// How many numbers a listed quad has.
+fn numbers(task: &Task) -> usize {
+    if task.greedy { 5 } else { 3 }
+}
+
 pub struct Ours {
     visited: Vec<u8>,
     out: Vec<u32>,
@@ -128,10 +133,9 @@ impl Ours {
     /// The output has room for six quads an interior voxel, which is always enough.
     pub fn new(task: &Task) -> Self {
         let across = task.size as usize - 2;
-        let numbers = if task.greedy { 5 } else { 3 };
         Ours {
             visited: vec![0; if task.greedy { task.voxels.len() } else { 0 }],
-            out: vec![0; 6 * across * across * across * numbers],
+            out: vec![0; 6 * across * across * across * numbers(task)],
             answer: [0; 9],
         }
     }
@@ -160,7 +164,6 @@ impl Side for Ours {
 
     fn result(&self, task: &Task) -> (u64, Vec<u32>) {
         let quads: u64 = self.answer[2..8].iter().sum();
-        let numbers = quads as usize * if task.greedy { 5 } else { 3 };
-        (quads, self.out[..numbers].to_vec())
+        (quads, self.out[..quads as usize * numbers(task)].to_vec())
     }
 }
