@@ -17,7 +17,7 @@ use Rattle.voxels.proofs.Pushed.{pushed-counts}
 use Rattle.greedy.specs.declared.face_scan.FaceScan.{FaceScan}
 use Rattle.greedy.specs.Greedy.{listed, quadNumbers, numbersOf}
 use Rattle.greedy.specs.Group.{Pick}
-use Rattle.greedy.specs.Inner.{walked, walkedRows, stepBy, needsAt, joinsAt, Touches, rowAt, quadAt, QuadReady, RowMarked, QuadMarked, steps, markQuadAt, Scanned, progress, roomTo, laidAt, scannedAt, SpotReady, voxelTests, Made}
+use Rattle.greedy.specs.Inner.{walked, walkedRows, stepBy, needsAt, joinsAt, Touches, rowAt, quadAt, QuadReady, RowMarked, QuadMarked, steps, markQuadAt, Scanned, progress, roomTo, laidBy, laidAt, scannedAt, SpotReady, voxelTests, Made}
 use Rattle.greedy.specs.Merger.{Walked}
 use Rattle.greedy.proofs.Walks.{walked-at-most, row-at-most, row-less, first-row}
 
@@ -127,7 +127,7 @@ module _ (vs marks out : List ℕ) (c : FaceScan) (p : Point) (i n t : ℕ) wher
       → marks′ ≡ markQuadAt (c .«u_stride» .0) (q .width) (c .«v_stride» .0) (q .height) marks i
       → output out′ n′ ≡ pushed quadNumbers numbersOf (output out n) (listed (record { minimum = p; width = q .width; height = q .height }))
       → Made (laidAt vs c (progress marks out n t) p i) (t + voxelTests) marks′ out′ n′ (t + 1 + q .tests)
-  unfolding laidAt
+  unfolding laidAt laidBy
   laid-made q marks′ out′ n′ ready few is marked push =
       record {
         is = rw (← is, ← marked, ← push);

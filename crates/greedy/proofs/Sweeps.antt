@@ -8,7 +8,6 @@ use native.Mathlib.Omega.{arith}
 use lib.ListN.{length, drop}
 use Rattle.geometry.specs.declared.axis.Axis.{Axis}
 use Rattle.geometry.specs.declared.axis.Axis.the-variants.{X, Y, Z}
-use Rattle.geometry.specs.declared.quad.UnorientedQuad.{UnorientedQuad}
 use Rattle.geometry.specs.declared.face.OrientedBlockFace.{OrientedBlockFace}
 use Rattle.geometry.specs.Point.{Point, at, along, put}
 use Rattle.geometry.specs.Axes.{positive, nAxis, uAxis, vAxis}
@@ -27,8 +26,8 @@ use Rattle.greedy.specs.declared.face_scan.FaceScan.{FaceScan}
 use Rattle.greedy.specs.Group.{sliceAt, sweep, passes, Choice, State, scanned, swept, fresh, group, Pick, roomU, roomV}
 use Rattle.greedy.specs.Merger.{voxelMerger}
 use Rattle.greedy.specs.Greedy.{listed, quadNumbers, numbersOf, greedyGroup}
-use Rattle.greedy.specs.Demand.{groupFrom}
-use Rattle.greedy.specs.Inner.{steps, quadAt, faster, slower, spot, spanOf, faceScan, Scanned, laidAt, scannedAt, rowAlong, sliceAlong, slicesAlong}
+use Rattle.greedy.specs.Demand.{groupFrom, quadOf}
+use Rattle.greedy.specs.Inner.{steps, quadAt, faster, slower, spot, spanOf, faceScan, Scanned, laidBy, laidAt, scannedAt, rowAlong, sliceAlong, slicesAlong}
 use Rattle.greedy.proofs.Loops.{quad-wide, quad-high}
 use Rattle.greedy.proofs.Spread.{spread, spread-index, spread-inside}
 use Rattle.greedy.proofs.Marks.{quad-length, quad-rest}
@@ -112,41 +111,41 @@ module _ (lent : ℕ) (shape : Point) (inner : Extent) (entered : Entered lent s
     pub adds : s .tests ≡ made + t .tests
 
   module _ (s : Scanned) (t : State) (same : Same s t) (p : Point) (h : Inside inner p) where
+    -- A rectangle within the room that is laid by indices is laid by the rule, whatever picked it.
+    module _ (q : Pick) (wide : q .width ≤ roomU f inner p) (high : q .height ≤ roomV f inner p) where
+      within : (x y : ℕ) → x < q .width → y < q .height → index shape p + y * dv + x * du < size shape
+      within x y lx ly =
+          rw (sym (spread-index f shape x y p))
+          (index-below shape (spread f x y p) (inner-in-shape lent shape inner entered _ (spread-inside f inner x y p h (omega (arith, wide)) (omega (arith, high)))))
+
+      pub laid-by : Same (laidBy c s p (index shape p) q) (record { quads = t .quads ++ (quadOf p q ∷ []); tests = t .tests + 1 + q .tests })
+      unfolding laidBy faceScan pushedAll
+      laid-by = record {
+        tells = tells-more lent shape inner entered f (t .quads) (s .marks) (quadOf p q) (same .tells) (same .long) h wide high;
+        long = rw (quad-length du (q .width) dv (q .height) (s .marks) (index shape p)) (same .long);
+        rest = quad-rest du (q .width) dv (q .height) (size shape) (s .marks) (index shape p) within ∙ same .rest;
+        lists =
+            ap (λ (o : Output). pushed quadNumbers numbersOf o (listed (quadOf p q))) (same .lists)
+            ∙ sym (pushed-append quadNumbers numbersOf before (map listed (t .quads)) (listed (quadOf p q) ∷ []))
+            ∙ ap (pushedAll quadNumbers numbersOf before) (sym (map-one-more listed (t .quads) (quadOf p q)));
+        adds = omega (arith, same .adds);
+      }
+
+    -- The walk's is such a one.
     abbrev picked : Pick
     picked = voxelMerger f v (t .quads) p (roomU f inner p) (roomV f inner p)
-
-    abbrev new : UnorientedQuad
-    new = record { minimum = p; width = picked .width; height = picked .height }
 
     pick-same : quadAt vs (s .marks) offset du dv (roomU f inner p) (roomV f inner p) (index shape p) ≡ picked
     pick-same = quad-same lent shape inner entered f vs (t .quads) (s .marks) (same .tells) p h
 
-    wide : picked .width ≤ roomU f inner p
-    wide = quad-wide vs (s .marks) offset du dv (roomU f inner p) (roomV f inner p) (index shape p) (sym pick-same)
-
-    high : picked .height ≤ roomV f inner p
-    high = let hv = h (vAxis f) in quad-high vs (s .marks) offset du dv (roomU f inner p) (roomV f inner p) (index shape p) (sym pick-same) (omega arith)
-
-    within : (x y : ℕ) → x < picked .width → y < picked .height → index shape p + y * dv + x * du < size shape
-    within x y lx ly =
-        rw (sym (spread-index f shape x y p))
-        (index-below shape (spread f x y p) (inner-in-shape lent shape inner entered _ (spread-inside f inner x y p h (omega (arith, wide)) (omega (arith, high)))))
-
-    -- A rectangle that is laid by indices is laid by the rule.
-    laid-same : Same (laidAt vs c s p (index shape p)) (record { quads = t .quads ++ (new ∷ []); tests = t .tests + 1 + picked .tests })
-    unfolding laidAt faceScan pushedAll
+    laid-same : Same (laidAt vs c s p (index shape p)) (record { quads = t .quads ++ (quadOf p picked ∷ []); tests = t .tests + 1 + picked .tests })
+    unfolding laidAt faceScan
     laid-same =
+        let hv = h (vAxis f) in
         rw pick-same
-        (record {
-          tells = tells-more lent shape inner entered f (t .quads) (s .marks) new (same .tells) (same .long) h wide high;
-          long = rw (quad-length du (picked .width) dv (picked .height) (s .marks) (index shape p)) (same .long);
-          rest = quad-rest du (picked .width) dv (picked .height) (size shape) (s .marks) (index shape p) within ∙ same .rest;
-          lists =
-              ap (λ (o : Output). pushed quadNumbers numbersOf o (listed new)) (same .lists)
-              ∙ sym (pushed-append quadNumbers numbersOf before (map listed (t .quads)) (listed new ∷ []))
-              ∙ ap (pushedAll quadNumbers numbersOf before) (sym (map-one-more listed (t .quads) new));
-          adds = omega (arith, same .adds);
-        })
+        (laid-by picked
+        (quad-wide vs (s .marks) offset du dv (roomU f inner p) (roomV f inner p) (index shape p) (sym pick-same))
+        (quad-high vs (s .marks) offset du dv (roomU f inner p) (roomV f inner p) (index shape p) (sym pick-same) (omega arith)))
 
     -- A voxel that is scanned by its index is scanned by the rule.
     pub scanned-same : Same (scannedAt vs c s p (index shape p)) (scanned f v inner (voxelMerger f v) t p)

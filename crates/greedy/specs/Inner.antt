@@ -195,15 +195,19 @@ progress marks out listed tests = record { marks = marks; output = output out li
 abbrev pub roomTo : Axis → Point → Point → ℕ
 roomTo a bound p = along a bound - along a p
 
--- A rectangle is picked at a point and its index, marked and listed.
-unfoldable pub laidAt : List ℕ → FaceScan → Scanned → Point → ℕ → Scanned
-laidAt voxels c s p i =
-    let q : Pick = quadAt voxels (s .marks) (c .«visibility_offset» .0) (c .«u_stride» .0) (c .«v_stride» .0) (roomTo (c .axes .u) (c .bound) p) (roomTo (c .axes .v) (c .bound) p) i in
+-- A rectangle that was picked at a point and its index is marked and listed, whatever picked it.
+unfoldable pub laidBy : FaceScan → Scanned → Point → ℕ → Pick → Scanned
+laidBy c s p i q =
     record {
       marks = markQuadAt (c .«u_stride» .0) (q .width) (c .«v_stride» .0) (q .height) (s .marks) i;
       output = pushed quadNumbers numbersOf (s .output) (listed (record { minimum = p; width = q .width; height = q .height }));
       tests = s .tests + 1 + q .tests;
     }
+
+-- That of the walk is.
+unfoldable pub laidAt : List ℕ → FaceScan → Scanned → Point → ℕ → Scanned
+laidAt voxels c s p i =
+    laidBy c s p i (quadAt voxels (s .marks) (c .«visibility_offset» .0) (c .«u_stride» .0) (c .«v_stride» .0) (roomTo (c .axes .u) (c .bound) p) (roomTo (c .axes .v) (c .bound) p) i)
 
 -- A voxel is scanned.
 unfoldable pub scannedAt : List ℕ → FaceScan → Scanned → Point → ℕ → Scanned
