@@ -10,9 +10,9 @@ use lib.ListN.{getD, replicate}
 use Rattle.geometry.proofs.Refusals.{split}
 use Rattle.voxels.specs.Visible.{offsetIndex}
 use Rattle.voxels.specs.Inner.{mostVoxels, longest}
-use Rattle.simple.specs.Inner.{shownAt, rowShown, sliceShown, Sound, SliceSound, RowReady, SliceReady, Flat, Within, Counted, CountedLess}
+use Rattle.simple.specs.Inner.{shownAt, rowShown, sliceShown, Sound, SliceSound, RowReady, SliceReady, Flat, Within, Counted}
 use Rattle.simple.proofs.Totals.{total-flat}
-use Rattle.simple.proofs.Counting.{counted-zeros}
+use Rattle.simple.proofs.Sixes.{counted-zeros}
 
 -- ---- parts of a run
 
@@ -130,11 +130,11 @@ module _ {wide d high long : ℕ} (flat : Flat wide d high long) where
       let all : rows + 1 ≡ high = omega (arith, flat .high-some) in
       rw (flat .is) (rw all at (total-flat (shownAt vs o) wide 2 d (flat .apart) rows i))
 
-  module _ (offsets vs between : List ℕ) (i : ℕ) (counted : Counted offsets (replicate 6 0) between (λ (o : ℕ). sliceShown vs o 2 d (high - 1) (i + wide))) where
+  module _ (vs between : List ℕ) (i : ℕ) (offset : ℕ → ℕ) (counted : Counted (replicate 6 0) between (λ (f : ℕ). sliceShown vs (offset f) 2 d (high - 1) (i + wide))) where
     -- So what lies between the rows is no more than the run,
-    pub flat-within : Within offsets between (λ (o : ℕ). rowShown vs o long i)
-    flat-within = record { all = counted .all; each = λ f h. omega (arith, counted-zeros counted f h, flat-shown vs (getD offsets f 0) i) }
+    pub flat-within : Within between (λ (f : ℕ). rowShown vs (offset f) long i)
+    flat-within = record { all = counted .all; each = λ f h. omega (arith, counted-zeros counted f h, flat-shown vs (offset f) i) }
 
     -- and the run less that is what the slice shows.
-    pub flat-counted : {was now : List ℕ} → CountedLess offsets between was now (λ (o : ℕ). rowShown vs o long i) → Counted offsets was now (λ (o : ℕ). sliceShown vs o wide d high i)
-    flat-counted less = record { each = λ f h. omega (arith, less .each f h, counted-zeros counted f h, flat-shown vs (getD offsets f 0) i); all = less .all }
+    pub flat-counted : {was now : List ℕ} → Counted was now (λ (f : ℕ). rowShown vs (offset f) long i - getD between f 0) → Counted was now (λ (f : ℕ). sliceShown vs (offset f) wide d high i)
+    flat-counted less = record { each = λ f h. omega (arith, less .each f h, counted-zeros counted f h, flat-shown vs (offset f) i); all = less .all }

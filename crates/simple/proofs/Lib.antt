@@ -1,8 +1,10 @@
 -- Laws. A function's own proof stands in the folder named after it.
--- Of counting a run.
+-- Of what a voxel shows, and of counting a run.
 pub mod Counted
 -- Of sums over indices, and how many quads are listed.
 pub mod Totals
+-- Of six numbers, one a face.
+pub mod Sixes
 -- Of loops that count.
 pub mod Counting
 -- Of a slice as one run.
@@ -13,8 +15,6 @@ pub mod Runs
 pub mod Cursors
 -- Of a face's group, by indices.
 pub mod Faces
--- Of six numbers, one a face.
-pub mod Sixes
 -- That no voxel that is read is bad.
 pub mod Soundness
 -- From the loops to the groups.

@@ -171,25 +171,25 @@ runs-append (suc n) out at quads next apart =
     (run-append (laidRuns out at (λ (f : ℕ). quads f ++ next f) n) (at n) (quads n) (next n))
 
 -- Runs that lie end to end from the start are the groups listed one after another.
-module _ {F : Type 0} (group : F → List Point) (fs : List F) (d : F) (was : List ℕ) (at : ℕ → ℕ) (first : at 0 ≡ 0) (next : (f : ℕ) → f < length fs → at (suc f) ≡ at f + length (group (getD fs f d))) where
-  pub runs-joined : (n : ℕ) → n ≤ length fs → output (laidRuns was at (λ (f : ℕ). group (getD fs f d)) n) (at n) ≡ pushedAll unitNumbers numbersOf (output was 0) (joined (map group (take n fs)))
+module _ {F : Type 0} (group : F → List Point) (fs : List F) (d : F) (at : ℕ → ℕ) (first : at 0 ≡ 0) (next : (f : ℕ) → f < length fs → at (suc f) ≡ at f + length (group (getD fs f d))) where
+  pub runs-joined : (was : List ℕ) (n : ℕ) → n ≤ length fs → output (laidRuns was at (λ (f : ℕ). group (getD fs f d)) n) (at n) ≡ pushedAll unitNumbers numbersOf (output was 0) (joined (map group (take n fs)))
   unfolding laidRuns joined pushedAll
-  runs-joined zero h = ap (output was) first
-  runs-joined (suc n) h =
+  runs-joined was zero h = ap (output was) first
+  runs-joined was (suc n) h =
       let one : n + 1 ≡ suc n = omega arith in
       groups-next unitNumbers numbersOf group fs d n was h
-      (runs-joined n (omega arith))
+      (runs-joined was n (omega arith))
       (ap (output _) (next n h) ∙ run-output _ (at n) (group (getD fs n d)))
       ∙ ap (λ (k : ℕ). pushedAll unitNumbers numbersOf (output was 0) (joined (map group (take k fs)))) one
 
-  module _ (offsets cursors : List ℕ) (quads : ℕ → List Point) (all : length fs ≡ 6) (places : (f : ℕ) → f < 6 → getD cursors f 0 ≡ at f) (groups : (f : ℕ) → f < 6 → group (getD fs f d) ≡ quads (getD offsets f 0)) where
+  module _ (cursors : List ℕ) (quads : ℕ → List Point) (all : length fs ≡ 6) (places : (f : ℕ) → f < 6 → getD cursors f 0 ≡ at f) (groups : (f : ℕ) → f < 6 → group (getD fs f d) ≡ quads f) where
     -- Six cursors that stand so are apart,
-    pub joined-apart : Apart cursors offsets quads
+    pub joined-apart : Apart cursors quads
     joined-apart f h = omega (arith, places f (omega arith), places (suc f) h, next f (omega arith), ap length (groups f (omega arith)))
 
     -- and what was listed from them is the groups, one after another.
-    pub listed-joined : {out now : List ℕ} → Listed offsets was cursors quads out now → output out (at 6) ≡ pushedAll unitNumbers numbersOf (output was 0) (joined (map group fs))
-    listed-joined made =
+    pub listed-joined : {was out now : List ℕ} → Listed was cursors quads out now → output out (at 6) ≡ pushedAll unitNumbers numbersOf (output was 0) (joined (map group fs))
+    listed-joined {was} made =
         ap (λ (o : List ℕ). output o (at 6)) (made .is ∙ runs-same 6 was _ at _ _ places (λ f h. sym (groups f h)))
-        ∙ runs-joined 6 (omega arith)
+        ∙ runs-joined was 6 (omega arith)
         ∙ ap (λ (g : List (List Point)). pushedAll unitNumbers numbersOf (output was 0) (joined g)) (groups-done group fs 6 (omega arith))

@@ -10,17 +10,18 @@ use Rattle.geometry.specs.declared.face.OrientedBlockFace.{OrientedBlockFace}
 use Rattle.geometry.specs.Point.{Point}
 use Rattle.geometry.specs.Axes.{nAxis}
 use Rattle.voxels.specs.declared.extent.Extent.{Extent}
+use Rattle.voxels.specs.declared.index.Stride.{Stride}
 use Rattle.voxels.specs.Shape.{index, stride, field}
 use Rattle.voxels.specs.Extent.{interior}
 use Rattle.voxels.specs.Visible.{modulus}
 use Rattle.voxels.specs.Inner.{mostVoxels, Entered, SoundAround, output, MadeGroups}
 use Rattle.voxels.proofs.Entered.{minimum-index, entered-stride}
 use Rattle.simple.specs.Unit.{unitNumbers, numbersOf, unitGroup, unitGroups}
-use Rattle.simple.specs.Inner.{slicesQuads, slicesShown, SlicesReady, Kernel, Room, SlicesSound, Apart, Counted, Listed, kernelStride, noFace, KernelOf, startOf, Starts}
+use Rattle.simple.specs.Inner.{slicesQuads, slicesShown, offsetOf, SlicesReady, EachFace, Room, SlicesSound, Apart, Counted, Listed, kernelStride, noFace, KernelOf, startOf, Starts}
 use Rattle.simple.proofs.Faces.{FaceReady, face-ready}
 use Rattle.simple.proofs.Soundness.{slices-sound}
 use Rattle.simple.proofs.Totals.{slices-length, slices-at-most}
-use Rattle.simple.proofs.Counting.{counted-zeros}
+use Rattle.simple.proofs.Sixes.{counted-zeros}
 use Rattle.simple.proofs.Runs.{joined-apart, listed-joined}
 
 -- The lengths of the faces' lists, face by face.
@@ -29,8 +30,17 @@ lengths-at g [] f h = let none : ⊥ = omega arith in absurd none
 lengths-at g (x ∷ faces) zero h = refl
 lengths-at g (x ∷ faces) (suc f) h = lengths-at g faces f (omega arith)
 
-module _ (lent : ℕ) (shape : Point) (inner : Extent) (entered : Entered lent shape inner) (vs : List ℕ) (faces : List OrientedBlockFace) (offsets : List ℕ) (kernel : KernelOf shape faces offsets) (i d e : ℕ)
-    (is-i : i ≡ index shape (inner .minimum) % modulus) (is-d : d ≡ stride shape Y % modulus) (is-e : e ≡ stride shape Z % modulus) where
+-- What is meshed: the interior of an accepted entry without a bad voxel, by six faces and their strides, from the first index on by two strides.
+pub record Meshing (lent : ℕ) (shape : Point) (inner : Extent) (vs : List ℕ) (faces : List OrientedBlockFace) (strides : List Stride) (i d e : ℕ) : Type 0 where
+  pub entered : Entered lent shape inner
+  pub sound : SoundAround vs shape inner
+  pub six : length faces ≡ 6
+  pub kernel : KernelOf shape faces strides
+  pub first : i ≡ index shape (inner .minimum) % modulus
+  pub rows : d ≡ stride shape Y % modulus
+  pub slices : e ≡ stride shape Z % modulus
+
+module _ {lent : ℕ} {shape : Point} {inner : Extent} {vs : List ℕ} {faces : List OrientedBlockFace} {strides : List Stride} {i d e : ℕ} (m : Meshing lent shape inner vs faces strides i d e) where
   abbrev wide : ℕ
   wide = inner .bound .x - inner .minimum .x
 
@@ -43,41 +53,42 @@ module _ (lent : ℕ) (shape : Point) (inner : Extent) (entered : Entered lent s
   abbrev faceAt : ℕ → OrientedBlockFace
   faceAt f = getD faces f noFace
 
-  -- What a face with an offset lists.
+  -- What a face lists.
   abbrev quadsOf : ℕ → List Point
-  quadsOf o = slicesQuads vs o (inner .minimum .x) wide (inner .minimum .y) d high (inner .minimum .z) e deep i
+  quadsOf f = slicesQuads vs (offsetOf strides f) (inner .minimum .x) wide (inner .minimum .y) d high (inner .minimum .z) e deep i
 
-  ready-at : (f : ℕ) → f < 6 → FaceReady lent shape inner (faceAt f) vs (getD offsets f 0) i d e
+  ready-at : (f : ℕ) → f < 6 → FaceReady lent shape inner (faceAt f) vs (offsetOf strides f) i d e
   unfolding kernelStride
-  ready-at f h = face-ready lent shape inner entered (faceAt f) vs (getD offsets f 0) (stride shape (nAxis (faceAt f)) % modulus) i d e is-i refl (kernel .each f h) is-d is-e
+  ready-at f h = face-ready lent shape inner (m .entered) (faceAt f) vs (offsetOf strides f) (stride shape (nAxis (faceAt f)) % modulus) i d e (m .first) refl (m .kernel f h) (m .rows) (m .slices)
 
   -- All that the loops read was lent,
-  pub all-ready : Kernel offsets (λ (o : ℕ). SlicesReady lent o i wide d high e deep)
-  all-ready = record { all = kernel .all; each = λ f h. ready-at f h .ready }
+  pub all-ready : EachFace (λ (f : ℕ). SlicesReady lent (offsetOf strides f) i wide d high e deep)
+  all-ready f h = ready-at f h .ready
 
   -- none of it is bad,
-  pub all-sound : SoundAround vs shape inner → SlicesSound vs i wide d high e deep
-  all-sound sound =
-      let first : i ≡ index shape (interior (entered .min) (entered .max) .minimum) = rw (entered .is) at (minimum-index lent shape inner entered is-i) in
-      rw (first, entered-stride lent shape inner entered Y is-d, entered-stride lent shape inner entered Z is-e, entered .is)
-      (slices-sound shape lent (entered .min) (entered .max) (entered .held) vs (rw (entered .is) at sound))
+  pub all-sound : SlicesSound vs i wide d high e deep
+  all-sound =
+      let entered = m .entered in
+      let first : i ≡ index shape (interior (entered .min) (entered .max) .minimum) = rw (entered .is) at (minimum-index lent shape inner entered (m .first)) in
+      rw (first, entered-stride lent shape inner entered Y (m .rows), entered-stride lent shape inner entered Z (m .slices), entered .is)
+      (slices-sound shape lent (entered .min) (entered .max) (entered .held) vs (rw (entered .is) at (m .sound)))
 
   -- and each face lists its group, of no more quads than a shape has voxels.
-  pub group-at : (f : ℕ) → f < 6 → quadsOf (getD offsets f 0) ≡ unitGroup inner (field shape vs) (faceAt f)
+  pub group-at : (f : ℕ) → f < 6 → quadsOf f ≡ unitGroup inner (field shape vs) (faceAt f)
   group-at f h = sym (ready-at f h .group)
 
   pub few : deep * e ≤ mostVoxels
   few = ready-at 0 (omega arith) .few
 
-  shown : (o : ℕ) → length (quadsOf o) ≡ slicesShown vs o wide d high e deep i
-  shown o = slices-length vs o _ wide _ d high _ e deep i
+  shown : (f : ℕ) → length (quadsOf f) ≡ slicesShown vs (offsetOf strides f) wide d high e deep i
+  shown f = slices-length vs (offsetOf strides f) _ wide _ d high _ e deep i
 
-  most : (o : ℕ) → slicesShown vs o wide d high e deep i ≤ mostVoxels
-  most o = omega (arith, slices-at-most vs o wide d high e deep i, ready-at 0 (omega arith) .few-in)
+  most : (f : ℕ) → slicesShown vs (offsetOf strides f) wide d high e deep i ≤ mostVoxels
+  most f = omega (arith, slices-at-most vs (offsetOf strides f) wide d high e deep i, ready-at 0 (omega arith) .few-in)
 
   -- After counting
-  module _ (six : length faces ≡ 6) (counts : List ℕ) (counted : Counted offsets (replicate 6 0) counts (λ (o : ℕ). slicesShown vs o wide d high e deep i)) where
-    count-at : (f : ℕ) → f < 6 → getD counts f 0 ≡ slicesShown vs (getD offsets f 0) wide d high e deep i
+  module _ {counts : List ℕ} (counted : Counted (replicate 6 0) counts (λ (f : ℕ). slicesShown vs (offsetOf strides f) wide d high e deep i)) where
+    count-at : (f : ℕ) → f < 6 → getD counts f 0 ≡ slicesShown vs (offsetOf strides f) wide d high e deep i
     count-at f h = counted-zeros counted f h
 
     -- the counts are the groups',
@@ -85,42 +96,42 @@ module _ (lent : ℕ) (shape : Point) (inner : Extent) (entered : Entered lent s
     unfolding unitGroups
     counts-are =
         let group : OrientedBlockFace → List Point = unitGroup inner (field shape vs) in
-        let long : length (map group faces) ≡ 6 = length-map faces group ∙ six in
+        let long : length (map group faces) ≡ 6 = length-map faces group ∙ m .six in
         ext-getD 0 counts _ (counted .all ∙ sym (length-map (map group faces) length ∙ long))
         (λ f h.
         let below : f < 6 = omega (arith, counted .all) in
-        count-at f below ∙ sym (shown (getD offsets f 0)) ∙ ap length (group-at f below)
-        ∙ sym (lengths-at group faces f (omega (arith, six))))
+        count-at f below ∙ sym (shown f) ∙ ap length (group-at f below)
+        ∙ sym (lengths-at group faces f (omega (arith, m .six))))
 
     -- none of them is too large,
     pub counts-small : Room counts 0
-    counts-small = record { all = counted .all; each = λ f h. omega (arith, count-at f h, most (getD offsets f 0), few) }
+    counts-small = record { all = counted .all; each = λ f h. omega (arith, count-at f h, most f, few) }
 
     -- and each run begins where the one before it ends.
     start-after : (f : ℕ) → f < length faces → startOf counts (suc f) ≡ startOf counts f + length (unitGroup inner (field shape vs) (faceAt f))
     unfolding startOf
-    start-after f h = omega (arith, six, count-at f (omega (arith, six)), shown (getD offsets f 0), ap length (group-at f (omega (arith, six))))
+    start-after f h = omega (arith, m .six, count-at f (omega (arith, m .six)), shown f, ap length (group-at f (omega (arith, m .six))))
 
     start-small : (f : ℕ) → f ≤ 6 → startOf counts f ≤ f * mostVoxels
     unfolding startOf
     start-small zero h = omega arith
-    start-small (suc f) h = omega (arith, start-small f (omega arith), count-at f (omega arith), most (getD offsets f 0), few)
+    start-small (suc f) h = omega (arith, start-small f (omega arith), count-at f (omega arith), most f, few)
 
     -- From cursors that stand there all runs can be listed, since they lie apart,
-    module _ (was cursors : List ℕ) (end : ℕ) (starts : Starts counts cursors end) where
+    module _ {cursors : List ℕ} {end : ℕ} (starts : Starts counts cursors end) where
       pub cursors-room : Room cursors (deep * e)
       cursors-room = record { all = starts .all; each = λ f h. omega (arith, starts .each f h, start-small f (omega arith), few) }
 
-      pub runs-apart : Apart cursors offsets quadsOf
+      pub runs-apart : Apart cursors quadsOf
       unfolding startOf
       runs-apart =
-          joined-apart (unitGroup inner (field shape vs)) faces noFace was (startOf counts) refl start-after offsets cursors quadsOf six (starts .each) (λ f h. sym (group-at f h))
+          joined-apart (unitGroup inner (field shape vs)) faces noFace (startOf counts) refl start-after cursors quadsOf (m .six) (starts .each) (λ f h. sym (group-at f h))
 
       -- and what they leave are the groups in turn.
-      pub groups-made : {out now : List ℕ} → Listed offsets was cursors quadsOf out now → MadeGroups unitNumbers numbersOf (unitGroups inner (field shape vs) faces) was out end counts
+      pub groups-made : {was out now : List ℕ} → Listed was cursors quadsOf out now → MadeGroups unitNumbers numbersOf (unitGroups inner (field shape vs) faces) was out end counts
       unfolding startOf unitGroups
       groups-made listed = record {
         is = ap (output _) (starts .last)
-            ∙ listed-joined (unitGroup inner (field shape vs)) faces noFace was (startOf counts) refl start-after offsets cursors quadsOf six (starts .each) (λ f h. sym (group-at f h)) listed;
+            ∙ listed-joined (unitGroup inner (field shape vs)) faces noFace (startOf counts) refl start-after cursors quadsOf (m .six) (starts .each) (λ f h. sym (group-at f h)) listed;
         each = counts-are;
       }

@@ -9,6 +9,7 @@ use Rattle.geometry.specs.declared.axis.AxisPermutation.the-variants.{Xyz}
 use Rattle.geometry.specs.declared.face.OrientedBlockFace.{OrientedBlockFace}
 use Rattle.geometry.specs.Point.{Point, at}
 use Rattle.geometry.specs.Axes.{bit, positive, nAxis}
+use Rattle.voxels.specs.declared.index.Stride.{Stride}
 use Rattle.voxels.specs.Voxel.{class, shows}
 use Rattle.voxels.specs.Listing.{Laid}
 use Rattle.voxels.specs.Shape.{stride}
@@ -19,6 +20,14 @@ use Rattle.simple.specs.Unit.{unitNumbers, numbersOf, unitAnswer, UnitOu
 -- What stands past the end of a list of faces.
 abbrev pub noFace : OrientedBlockFace
 noFace = record { «n_sign» = pos 0; permutation = Xyz }
+
+-- What stands past the end of a list of strides.
+abbrev pub noStride : Stride
+noStride = record { 0 = 0 }
+
+-- Of six strides, one a face, a face's, as the offset that it adds to an index.
+abbrev pub offsetOf : List Stride → ℕ → ℕ
+offsetOf strides f = getD strides f noStride .0
 
 -- ---- what the loops list, by indices and coordinates
 
@@ -87,10 +96,9 @@ laidRuns out at quads (suc f) = laidRun (laidRuns out at quads f) (at f) (quads 
 abbrev pub mostListed : ℕ
 mostListed = 16 * mostVoxels
 
--- Six offsets, one a face, and what holds of each.
-pub record Kernel (offsets : List ℕ) (holds : ℕ → Type 0) : Type 0 where
-  pub all : length offsets ≡ 6
-  pub each : (f : ℕ) → f < 6 → holds (getD offsets f 0)
+-- What holds of each of six faces.
+abbrev pub EachFace : (ℕ → Type 0) → Type 0
+EachFace holds = (f : ℕ) → f < 6 → holds f
 
 -- Six numbers, one a face, each of which can grow by so many.
 pub record Room (numbers : List ℕ) (most : ℕ) : Type 0 where
@@ -127,14 +135,14 @@ pub record Flat (wide d high long : ℕ) : Type 0 where
   pub is : long ≡ (high - 1) * d + wide
   pub short : long ≤ longest
 
--- Six numbers, one a face, each at most what `most` says of its face's offset.
-pub record Within (offsets numbers : List ℕ) (most : ℕ → ℕ) : Type 0 where
+-- Six numbers, one a face, each at most what `most` says of its face.
+pub record Within (numbers : List ℕ) (most : ℕ → ℕ) : Type 0 where
   pub all : length numbers ≡ 6
-  pub each : (f : ℕ) → f < 6 → getD numbers f 0 ≤ most (getD offsets f 0)
+  pub each : (f : ℕ) → f < 6 → getD numbers f 0 ≤ most f
 
 -- Each face's run of quads ends before the next face's begins.
-abbrev pub Apart : List ℕ → List ℕ → (ℕ → List Point) → Type 0
-Apart cursors offsets quads = (f : ℕ) → suc f < 6 → getD cursors f 0 + length (quads (getD offsets f 0)) ≤ getD cursors (suc f) 0
+abbrev pub Apart : List ℕ → (ℕ → List Point) → Type 0
+Apart cursors quads = (f : ℕ) → suc f < 6 → getD cursors f 0 + length (quads f) ≤ getD cursors (suc f) 0
 
 -- The voxels of two rows were lent, and a row is short enough to be counted.
 pub record Beside (lent i j wide : ℕ) : Type 0 where
@@ -163,15 +171,14 @@ pub record SlicesReady (lent offset i wide d high e deep : ℕ) : Type 0 where
 
 -- ---- what they promise
 
--- Six numbers grew, each by what `more` says of its face's offset.
-pub record Counted (offsets was now : List ℕ) (more : ℕ → ℕ) : Type 0 where
-  pub each : (f : ℕ) → f < 6 → getD now f 0 ≡ getD was f 0 + more (getD offsets f 0)
+-- Six numbers grew, each by what `more` says of its face.
+pub record Counted (was now : List ℕ) (more : ℕ → ℕ) : Type 0 where
+  pub each : (f : ℕ) → f < 6 → getD now f 0 ≡ getD was f 0 + more f
   pub all : length now ≡ 6
 
--- Six offsets are those of six faces.
-pub record KernelOf (shape : Point) (faces : List OrientedBlockFace) (offsets : List ℕ) : Type 0 where
-  pub all : length offsets ≡ 6
-  pub each : (f : ℕ) → f < 6 → getD offsets f 0 ≡ kernelStride shape (getD faces f noFace)
+-- Six strides are those of six faces.
+abbrev pub KernelOf : Point → List OrientedBlockFace → List Stride → Type 0
+KernelOf shape faces strides = EachFace (λ (f : ℕ). offsetOf strides f ≡ kernelStride shape (getD faces f noFace))
 
 -- Six cursors stand where the runs of so many quads begin, and the last run ends at a number.
 pub record Starts (counts cursors : List ℕ) (end : ℕ) : Type 0 where
@@ -179,15 +186,10 @@ pub record Starts (counts cursors : List ℕ) (end : ℕ) : Type 0 where
   pub each : (f : ℕ) → f < 6 → getD cursors f 0 ≡ startOf counts f
   pub last : end ≡ startOf counts 6
 
--- Six numbers grew, each by what `more` says of its face's offset, less a number of its face.
-pub record CountedLess (offsets less was now : List ℕ) (more : ℕ → ℕ) : Type 0 where
-  pub each : (f : ℕ) → f < 6 → getD now f 0 ≡ getD was f 0 + (more (getD offsets f 0) - getD less f 0)
-  pub all : length now ≡ 6
-
 -- Each face's quads were written from its cursor on, and the cursor moved past them.
-pub record Listed (offsets was cursors : List ℕ) (quads : ℕ → List Point) (out now : List ℕ) : Type 0 where
-  pub is : out ≡ laidRuns was (λ (f : ℕ). getD cursors f 0) (λ (f : ℕ). quads (getD offsets f 0)) 6
-  pub moved : Counted offsets cursors now (λ (o : ℕ). length (quads o))
+pub record Listed (was cursors : List ℕ) (quads : ℕ → List Point) (out now : List ℕ) : Type 0 where
+  pub is : out ≡ laidRuns was (λ (f : ℕ). getD cursors f 0) quads 6
+  pub moved : Counted cursors now (λ (f : ℕ). length (quads f))
 
 -- The outcome of what laying leaves.
 abbrev pub laidOutcome : Laid → UnitOutcome

@@ -5,13 +5,13 @@
 // one run of voxels, without a branch, less the voxels between its rows. Other slices are counted row
 // by row, and a voxel that is empty is passed before any neighbor is looked at.
 ghost use mathlib.Core.Path.{_≡_};
-ghost use Prim.Native.Nat.{_+_, _*_, _<_, _≤_};
+ghost use Prim.Native.Nat.{_+_, _-_, _*_, _<_, _≤_};
 ghost use lib.ListN.{length, getD};
 ghost use Rattle.geometry.specs.Axes.{bit};
 ghost use Rattle.voxels.specs.Voxel as rule;
 ghost use Rattle.voxels.specs.Visible.{offsetIndex};
 ghost use Rattle.voxels.specs.Inner.{mostVoxels};
-ghost use Rattle.simple.specs.Inner.{shownAt, shownBeside, rowShown, sliceShown, slicesShown, Beside, RowReady, SliceReady, SlicesReady, Kernel, Room, Sound, SliceSound, SlicesSound, Flat, Within, Counted, CountedLess};
+ghost use Rattle.simple.specs.Inner.{offsetOf, shownAt, shownBeside, rowShown, sliceShown, slicesShown, Beside, RowReady, SliceReady, SlicesReady, EachFace, Room, Sound, SliceSound, SlicesSound, Flat, Within, Counted};
 use voxels::index::Stride;
 use voxels::index::VoxelIndex;
 use voxels::voxel;
@@ -49,11 +49,11 @@ fn count_run(voxels: &[u16], start: VoxelIndex, beyond: VoxelIndex, long: u32) -
 }
 
 // Counts the faces that a voxel shows.
-fn count_voxel(voxels: &[u16], kernel_strides: &[u32], counts: &mut [u64], index: VoxelIndex)
+fn count_voxel(voxels: &[u16], kernel_strides: [Stride; 6], counts: &mut [u64], index: VoxelIndex)
     requires { ⌜ (index .0 < length (now voxels)) × (rule.class (getD (now voxels) (index .0) 0) ≤ 2) ⌝ }
-    requires { ⌜ Kernel (now «kernel_strides») (λ o. offsetIndex (index .0) o < length (now voxels)) ⌝ }
+    requires { ⌜ EachFace (λ f. offsetIndex (index .0) (offsetOf «kernel_strides» f) < length (now voxels)) ⌝ }
     requires { ⌜ Room (now counts) 1 ⌝ }
-    ensures { λ _. ⌜ Counted (now («kernel_strides» .entry)) (now (counts .entry)) (now (counts .exit)) (λ o. shownAt (now (voxels .entry)) o (index .0)) ⌝ }
+    ensures { λ _. ⌜ Counted (now (counts .entry)) (now (counts .exit)) (λ f. shownAt (now (voxels .entry)) (offsetOf «kernel_strides» f) (index .0)) ⌝ }
 {
     let i = index.0 as usize;
     let sight = voxel::sight(voxels[i]);
@@ -62,7 +62,8 @@ fn count_voxel(voxels: &[u16], kernel_strides: &[u32], counts: &mut [u64], index
     }
     let mut f: usize = 0;
     while f < 6 {
-        let neighbor = index.offset(Stride(kernel_strides[f]));
+        let stride = kernel_strides[f];
+        let neighbor = index.offset(stride);
         let j = neighbor.0 as usize;
         if voxels[j] < sight {
             counts[f] += 1;
@@ -74,15 +75,15 @@ fn count_voxel(voxels: &[u16], kernel_strides: &[u32], counts: &mut [u64], index
 // Counts the faces that a row shows.
 fn count_row(
     voxels: &[u16],
-    kernel_strides: &[u32],
+    kernel_strides: [Stride; 6],
     counts: &mut [u64],
     start: VoxelIndex,
     wide: u32,
 )
-    requires { ⌜ Kernel (now «kernel_strides») (λ o. RowReady (length (now voxels)) o (start .0) wide) ⌝ }
+    requires { ⌜ EachFace (λ f. RowReady (length (now voxels)) (offsetOf «kernel_strides» f) (start .0) wide) ⌝ }
     requires { ⌜ Sound (now voxels) (start .0) wide ⌝ }
     requires { ⌜ Room (now counts) wide × (start .0 + wide ≤ 2 * mostVoxels) ⌝ }
-    ensures { λ _. ⌜ Counted (now («kernel_strides» .entry)) (now (counts .entry)) (now (counts .exit)) (λ o. rowShown (now (voxels .entry)) o wide (start .0)) ⌝ }
+    ensures { λ _. ⌜ Counted (now (counts .entry)) (now (counts .exit)) (λ f. rowShown (now (voxels .entry)) (offsetOf «kernel_strides» f) wide (start .0)) ⌝ }
 {
     let mut k: u32 = 0;
     let mut i = start.0;
@@ -96,17 +97,17 @@ fn count_row(
 // Counts the faces that rows show, row by row.
 fn count_rows(
     voxels: &[u16],
-    kernel_strides: &[u32],
+    kernel_strides: [Stride; 6],
     counts: &mut [u64],
     start: VoxelIndex,
     wide: u32,
     y_stride: Stride,
     high: u32,
 )
-    requires { ⌜ Kernel (now «kernel_strides») (λ o. SliceReady (length (now voxels)) o (start .0) wide («y_stride» .0) high) ⌝ }
+    requires { ⌜ EachFace (λ f. SliceReady (length (now voxels)) (offsetOf «kernel_strides» f) (start .0) wide («y_stride» .0) high) ⌝ }
     requires { ⌜ SliceSound (now voxels) (start .0) wide («y_stride» .0) high ⌝ }
     requires { ⌜ Room (now counts) (high * «y_stride» .0) ⌝ }
-    ensures { λ _. ⌜ Counted (now («kernel_strides» .entry)) (now (counts .entry)) (now (counts .exit)) (λ o. sliceShown (now (voxels .entry)) o wide («y_stride» .0) high (start .0)) ⌝ }
+    ensures { λ _. ⌜ Counted (now (counts .entry)) (now (counts .exit)) (λ f. sliceShown (now (voxels .entry)) (offsetOf «kernel_strides» f) wide («y_stride» .0) high (start .0)) ⌝ }
 {
     let step = y_stride.0;
     let mut k: u32 = 0;
@@ -121,21 +122,22 @@ fn count_rows(
 // Counts the faces that a run shows, less so many of each face.
 fn count_runs(
     voxels: &[u16],
-    kernel_strides: &[u32],
+    kernel_strides: [Stride; 6],
     counts: &mut [u64],
     less: &[u64],
     start: VoxelIndex,
     long: u32,
 )
-    requires { ⌜ Kernel (now «kernel_strides») (λ o. RowReady (length (now voxels)) o (start .0) long) ⌝ }
+    requires { ⌜ EachFace (λ f. RowReady (length (now voxels)) (offsetOf «kernel_strides» f) (start .0) long) ⌝ }
     requires { ⌜ Sound (now voxels) (start .0) long ⌝ }
     requires { ⌜ Room (now counts) long ⌝ }
-    requires { ⌜ Within (now «kernel_strides») (now less) (λ o. rowShown (now voxels) o long (start .0)) ⌝ }
-    ensures { λ _. ⌜ CountedLess (now («kernel_strides» .entry)) (now (less .entry)) (now (counts .entry)) (now (counts .exit)) (λ o. rowShown (now (voxels .entry)) o long (start .0)) ⌝ }
+    requires { ⌜ Within (now less) (λ f. rowShown (now voxels) (offsetOf «kernel_strides» f) long (start .0)) ⌝ }
+    ensures { λ _. ⌜ Counted (now (counts .entry)) (now (counts .exit)) (λ f. rowShown (now (voxels .entry)) (offsetOf «kernel_strides» f) long (start .0) - getD (now (less .entry)) f 0) ⌝ }
 {
     let mut f: usize = 0;
     while f < 6 {
-        let beyond = start.offset(Stride(kernel_strides[f]));
+        let stride = kernel_strides[f];
+        let beyond = start.offset(stride);
         let run = count_run(voxels, start, beyond, long) as u64;
         counts[f] += run - less[f];
         f += 1;
@@ -145,7 +147,7 @@ fn count_runs(
 // Counts the faces that a slice shows whose rows are two voxels apart, as one run.
 fn count_flat(
     voxels: &[u16],
-    kernel_strides: &[u32],
+    kernel_strides: [Stride; 6],
     counts: &mut [u64],
     start: VoxelIndex,
     wide: u32,
@@ -153,11 +155,11 @@ fn count_flat(
     high: u32,
     long: u32,
 )
-    requires { ⌜ Kernel (now «kernel_strides») (λ o. SliceReady (length (now voxels)) o (start .0) wide («y_stride» .0) high) ⌝ }
+    requires { ⌜ EachFace (λ f. SliceReady (length (now voxels)) (offsetOf «kernel_strides» f) (start .0) wide («y_stride» .0) high) ⌝ }
     requires { ⌜ SliceSound (now voxels) (start .0) wide («y_stride» .0) high ⌝ }
     requires { ⌜ Room (now counts) (high * «y_stride» .0) ⌝ }
     requires { ⌜ Flat wide («y_stride» .0) high long ⌝ }
-    ensures { λ _. ⌜ Counted (now («kernel_strides» .entry)) (now (counts .entry)) (now (counts .exit)) (λ o. sliceShown (now (voxels .entry)) o wide («y_stride» .0) high (start .0)) ⌝ }
+    ensures { λ _. ⌜ Counted (now (counts .entry)) (now (counts .exit)) (λ f. sliceShown (now (voxels .entry)) (offsetOf «kernel_strides» f) wide («y_stride» .0) high (start .0)) ⌝ }
 {
     let mut between = [0u64; 6];
     count_rows(
@@ -175,17 +177,17 @@ fn count_flat(
 // Counts the faces that a slice shows.
 fn count_slice(
     voxels: &[u16],
-    kernel_strides: &[u32],
+    kernel_strides: [Stride; 6],
     counts: &mut [u64],
     start: VoxelIndex,
     wide: u32,
     y_stride: Stride,
     high: u32,
 )
-    requires { ⌜ Kernel (now «kernel_strides») (λ o. SliceReady (length (now voxels)) o (start .0) wide («y_stride» .0) high) ⌝ }
+    requires { ⌜ EachFace (λ f. SliceReady (length (now voxels)) (offsetOf «kernel_strides» f) (start .0) wide («y_stride» .0) high) ⌝ }
     requires { ⌜ SliceSound (now voxels) (start .0) wide («y_stride» .0) high ⌝ }
     requires { ⌜ Room (now counts) (high * «y_stride» .0) ⌝ }
-    ensures { λ _. ⌜ Counted (now («kernel_strides» .entry)) (now (counts .entry)) (now (counts .exit)) (λ o. sliceShown (now (voxels .entry)) o wide («y_stride» .0) high (start .0)) ⌝ }
+    ensures { λ _. ⌜ Counted (now (counts .entry)) (now (counts .exit)) (λ f. sliceShown (now (voxels .entry)) (offsetOf «kernel_strides» f) wide («y_stride» .0) high (start .0)) ⌝ }
 {
     let step = y_stride.0;
     if wide == 0 {
@@ -216,7 +218,7 @@ fn count_slice(
 // Counts the faces that all slices show.
 pub(crate) fn count_slices(
     voxels: &[u16],
-    kernel_strides: &[u32],
+    kernel_strides: [Stride; 6],
     counts: &mut [u64],
     start: VoxelIndex,
     wide: u32,
@@ -225,10 +227,10 @@ pub(crate) fn count_slices(
     z_stride: Stride,
     deep: u32,
 )
-    requires { ⌜ Kernel (now «kernel_strides») (λ o. SlicesReady (length (now voxels)) o (start .0) wide («y_stride» .0) high («z_stride» .0) deep) ⌝ }
+    requires { ⌜ EachFace (λ f. SlicesReady (length (now voxels)) (offsetOf «kernel_strides» f) (start .0) wide («y_stride» .0) high («z_stride» .0) deep) ⌝ }
     requires { ⌜ SlicesSound (now voxels) (start .0) wide («y_stride» .0) high («z_stride» .0) deep ⌝ }
     requires { ⌜ Room (now counts) (deep * «z_stride» .0) ⌝ }
-    ensures { λ _. ⌜ Counted (now («kernel_strides» .entry)) (now (counts .entry)) (now (counts .exit)) (λ o. slicesShown (now (voxels .entry)) o wide («y_stride» .0) high («z_stride» .0) deep (start .0)) ⌝ }
+    ensures { λ _. ⌜ Counted (now (counts .entry)) (now (counts .exit)) (λ f. slicesShown (now (voxels .entry)) (offsetOf «kernel_strides» f) wide («y_stride» .0) high («z_stride» .0) deep (start .0)) ⌝ }
 {
     let step = z_stride.0;
     let mut k: u32 = 0;

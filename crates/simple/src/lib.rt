@@ -48,17 +48,17 @@ fn kernel_stride(voxels_shape: UVec3, face: OrientedBlockFace) -> Stride
 }
 
 // The Rust's `kernel_strides`: that of each face.
-fn kernel_strides(strides: &mut [u32], voxels_shape: UVec3, faces: [OrientedBlockFace; 6])
-    requires { ⌜ length (now strides) ≡ 6 ⌝ }
-    ensures { λ _. ⌜ KernelOf «voxels_shape» faces (now (strides .exit)) ⌝ }
+fn kernel_strides(voxels_shape: UVec3, faces: [OrientedBlockFace; 6]) -> [Stride; 6]
+    ensures { λ r. ⌜ KernelOf «voxels_shape» faces r ⌝ }
 {
+    let mut strides = [Stride(0); 6];
     let mut f: usize = 0;
     while f < 6 {
         let face = faces[f];
-        let stride = kernel_stride(voxels_shape, face);
-        strides[f] = stride.0;
+        strides[f] = kernel_stride(voxels_shape, face);
         f += 1;
     }
+    strides
 }
 
 // Where the run of each face begins in the output, and where the last one ends.
@@ -96,8 +96,7 @@ fn mesh_faces(
     requires { ⌜ SoundAround (now voxels) «voxels_shape» interior ⌝ }
     ensures { λ r. ⌜ MadeGroups unitNumbers numbersOf (unitGroups interior (field «voxels_shape» (now (voxels .entry))) faces) (now (out .entry)) (now (out .exit)) (r .listed) (r .counts) ⌝ }
 {
-    let mut strides = [0u32; 6];
-    kernel_strides(&mut strides, voxels_shape, faces);
+    let strides = kernel_strides(voxels_shape, faces);
     let y_stride = Stride::new(voxels_shape, Axis::Y);
     let z_stride = Stride::new(voxels_shape, Axis::Z);
     let minimum = interior.minimum;
@@ -109,7 +108,7 @@ fn mesh_faces(
     let mut counts = [0u64; 6];
     count::count_slices(
         voxels,
-        &strides,
+        strides,
         &mut counts,
         start,
         wide,
@@ -124,7 +123,7 @@ fn mesh_faces(
         voxels,
         out,
         capacity,
-        &strides,
+        strides,
         &mut cursors,
         start,
         minimum.x,

@@ -9,7 +9,7 @@ ghost use Rattle.voxels.specs.Visible.{offsetIndex};
 ghost use Rattle.voxels.specs.Listing as listing;
 ghost use Rattle.voxels.specs.Inner.{mostVoxels, output, pushed};
 ghost use Rattle.simple.specs.Unit.{unitNumbers, numbersOf};
-ghost use Rattle.simple.specs.Inner.{mostListed, voxelQuad, rowQuads, sliceQuads, slicesQuads, RowReady, SliceReady, SlicesReady, Kernel, Room, Sound, SliceSound, SlicesSound, Apart, Listed};
+ghost use Rattle.simple.specs.Inner.{offsetOf, mostListed, voxelQuad, rowQuads, sliceQuads, slicesQuads, RowReady, SliceReady, SlicesReady, EachFace, Room, Sound, SliceSound, SlicesSound, Apart, Listed};
 use voxels::index::Stride;
 use voxels::index::VoxelIndex;
 use voxels::voxel;
@@ -36,7 +36,7 @@ fn list_voxel(
     voxels: &[u16],
     out: &mut [u32],
     capacity: usize,
-    kernel_strides: &[u32],
+    kernel_strides: [Stride; 6],
     cursors: &mut [usize],
     index: VoxelIndex,
     x: u32,
@@ -45,9 +45,9 @@ fn list_voxel(
 )
     requires { ⌜ capacity ≡ listing.capacity unitNumbers (length (now out)) ⌝ }
     requires { ⌜ (index .0 < length (now voxels)) × (rule.class (getD (now voxels) (index .0) 0) ≤ 2) ⌝ }
-    requires { ⌜ Kernel (now «kernel_strides») (λ o. offsetIndex (index .0) o < length (now voxels)) ⌝ }
+    requires { ⌜ EachFace (λ f. offsetIndex (index .0) (offsetOf «kernel_strides» f) < length (now voxels)) ⌝ }
     requires { ⌜ Room (now cursors) 1 ⌝ }
-    ensures { λ _. ⌜ Listed (now («kernel_strides» .entry)) (now (out .entry)) (now (cursors .entry)) (λ o. voxelQuad (now (voxels .entry)) o y z x (index .0)) (now (out .exit)) (now (cursors .exit)) ⌝ }
+    ensures { λ _. ⌜ Listed (now (out .entry)) (now (cursors .entry)) (λ f. voxelQuad (now (voxels .entry)) (offsetOf «kernel_strides» f) y z x (index .0)) (now (out .exit)) (now (cursors .exit)) ⌝ }
 {
     let i = index.0 as usize;
     let sight = voxel::sight(voxels[i]);
@@ -56,7 +56,8 @@ fn list_voxel(
     }
     let mut f: usize = 0;
     while f < 6 {
-        let neighbor = index.offset(Stride(kernel_strides[f]));
+        let stride = kernel_strides[f];
+        let neighbor = index.offset(stride);
         let j = neighbor.0 as usize;
         if voxels[j] < sight {
             cursors[f] = push(out, capacity, cursors[f], x, y, z);
@@ -70,7 +71,7 @@ fn list_row(
     voxels: &[u16],
     out: &mut [u32],
     capacity: usize,
-    kernel_strides: &[u32],
+    kernel_strides: [Stride; 6],
     cursors: &mut [usize],
     start: VoxelIndex,
     x: u32,
@@ -79,11 +80,11 @@ fn list_row(
     wide: u32,
 )
     requires { ⌜ capacity ≡ listing.capacity unitNumbers (length (now out)) ⌝ }
-    requires { ⌜ Kernel (now «kernel_strides») (λ o. RowReady (length (now voxels)) o (start .0) wide) ⌝ }
+    requires { ⌜ EachFace (λ f. RowReady (length (now voxels)) (offsetOf «kernel_strides» f) (start .0) wide) ⌝ }
     requires { ⌜ Sound (now voxels) (start .0) wide ⌝ }
     requires { ⌜ (Room (now cursors) wide) × (x + wide ≤ mostVoxels) × (start .0 + wide ≤ 2 * mostVoxels) ⌝ }
-    requires { ⌜ Apart (now cursors) (now «kernel_strides») (λ o. rowQuads (now voxels) o x wide z y (start .0)) ⌝ }
-    ensures { λ _. ⌜ Listed (now («kernel_strides» .entry)) (now (out .entry)) (now (cursors .entry)) (λ o. rowQuads (now (voxels .entry)) o x wide z y (start .0)) (now (out .exit)) (now (cursors .exit)) ⌝ }
+    requires { ⌜ Apart (now cursors) (λ f. rowQuads (now voxels) (offsetOf «kernel_strides» f) x wide z y (start .0)) ⌝ }
+    ensures { λ _. ⌜ Listed (now (out .entry)) (now (cursors .entry)) (λ f. rowQuads (now (voxels .entry)) (offsetOf «kernel_strides» f) x wide z y (start .0)) (now (out .exit)) (now (cursors .exit)) ⌝ }
 {
     let mut k: u32 = 0;
     let mut i = start.0;
@@ -109,7 +110,7 @@ fn list_slice(
     voxels: &[u16],
     out: &mut [u32],
     capacity: usize,
-    kernel_strides: &[u32],
+    kernel_strides: [Stride; 6],
     cursors: &mut [usize],
     start: VoxelIndex,
     x: u32,
@@ -120,11 +121,11 @@ fn list_slice(
     z: u32,
 )
     requires { ⌜ capacity ≡ listing.capacity unitNumbers (length (now out)) ⌝ }
-    requires { ⌜ Kernel (now «kernel_strides») (λ o. SliceReady (length (now voxels)) o (start .0) wide («y_stride» .0) high) ⌝ }
+    requires { ⌜ EachFace (λ f. SliceReady (length (now voxels)) (offsetOf «kernel_strides» f) (start .0) wide («y_stride» .0) high) ⌝ }
     requires { ⌜ SliceSound (now voxels) (start .0) wide («y_stride» .0) high ⌝ }
     requires { ⌜ (Room (now cursors) (high * «y_stride» .0)) × (x + wide ≤ mostVoxels) × (y + high ≤ mostVoxels) ⌝ }
-    requires { ⌜ Apart (now cursors) (now «kernel_strides») (λ o. sliceQuads (now voxels) o x wide y («y_stride» .0) high z (start .0)) ⌝ }
-    ensures { λ _. ⌜ Listed (now («kernel_strides» .entry)) (now (out .entry)) (now (cursors .entry)) (λ o. sliceQuads (now (voxels .entry)) o x wide y («y_stride» .0) high z (start .0)) (now (out .exit)) (now (cursors .exit)) ⌝ }
+    requires { ⌜ Apart (now cursors) (λ f. sliceQuads (now voxels) (offsetOf «kernel_strides» f) x wide y («y_stride» .0) high z (start .0)) ⌝ }
+    ensures { λ _. ⌜ Listed (now (out .entry)) (now (cursors .entry)) (λ f. sliceQuads (now (voxels .entry)) (offsetOf «kernel_strides» f) x wide y («y_stride» .0) high z (start .0)) (now (out .exit)) (now (cursors .exit)) ⌝ }
 {
     let step = y_stride.0;
     let mut k: u32 = 0;
@@ -152,7 +153,7 @@ pub(crate) fn list_slices(
     voxels: &[u16],
     out: &mut [u32],
     capacity: usize,
-    kernel_strides: &[u32],
+    kernel_strides: [Stride; 6],
     cursors: &mut [usize],
     start: VoxelIndex,
     x: u32,
@@ -165,11 +166,11 @@ pub(crate) fn list_slices(
     deep: u32,
 )
     requires { ⌜ capacity ≡ listing.capacity unitNumbers (length (now out)) ⌝ }
-    requires { ⌜ Kernel (now «kernel_strides») (λ o. SlicesReady (length (now voxels)) o (start .0) wide («y_stride» .0) high («z_stride» .0) deep) ⌝ }
+    requires { ⌜ EachFace (λ f. SlicesReady (length (now voxels)) (offsetOf «kernel_strides» f) (start .0) wide («y_stride» .0) high («z_stride» .0) deep) ⌝ }
     requires { ⌜ SlicesSound (now voxels) (start .0) wide («y_stride» .0) high («z_stride» .0) deep ⌝ }
     requires { ⌜ (Room (now cursors) (deep * «z_stride» .0)) × (x + wide ≤ mostVoxels) × (y + high ≤ mostVoxels) × (z + deep ≤ mostVoxels) ⌝ }
-    requires { ⌜ Apart (now cursors) (now «kernel_strides») (λ o. slicesQuads (now voxels) o x wide y («y_stride» .0) high z («z_stride» .0) deep (start .0)) ⌝ }
-    ensures { λ _. ⌜ Listed (now («kernel_strides» .entry)) (now (out .entry)) (now (cursors .entry)) (λ o. slicesQuads (now (voxels .entry)) o x wide y («y_stride» .0) high z («z_stride» .0) deep (start .0)) (now (out .exit)) (now (cursors .exit)) ⌝ }
+    requires { ⌜ Apart (now cursors) (λ f. slicesQuads (now voxels) (offsetOf «kernel_strides» f) x wide y («y_stride» .0) high z («z_stride» .0) deep (start .0)) ⌝ }
+    ensures { λ _. ⌜ Listed (now (out .entry)) (now (cursors .entry)) (λ f. slicesQuads (now (voxels .entry)) (offsetOf «kernel_strides» f) x wide y («y_stride» .0) high z («z_stride» .0) deep (start .0)) (now (out .exit)) (now (cursors .exit)) ⌝ }
 {
     let step = z_stride.0;
     let mut slice: u32 = 0;

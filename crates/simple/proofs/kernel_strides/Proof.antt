@@ -1,23 +1,24 @@
--- `kernel_strides` meets its contract: the offsets so far are those of the faces so far.
+-- `kernel_strides` meets its contract: the strides so far are those of the faces so far.
 use borrow.Author.Needs.{needs}
-use mathlib.Core.Path.{_≡_, sym, _∙_}
+use mathlib.Core.Path.{_≡_, refl, _∙_}
 use Prim.Native.Nat.{ℕ, _-_, _≤_, _<_}
 use native.Mathlib.Omega.{arith}
 use lib.ListN.{length, getD, length-set}
-use Rattle.simple.specs.Inner.{kernelStride, noFace}
+use Rattle.voxels.specs.declared.index.Stride.{Stride}
+use Rattle.simple.specs.Inner.{kernelStride, noFace, noStride, offsetOf}
 use Rattle.simple.proofs.Sixes.{filled-next}
 use Rattle.simple.proofs.kernel_strides.Statement.{statement}
 use Rattle.simple.proofs.kernel_strides.Tie as tie
 
 abbrev Inv-loop : tie.InvT-loop
-Inv-loop strides₀ voxels-shape faces f₀ strides f =
-    (f ≤ 6) × (length strides ≡ 6) × ((g : ℕ) → g < f → getD strides g 0 ≡ kernelStride voxels-shape (getD faces g noFace))
+Inv-loop voxels-shape faces strides₀ f₀ strides f =
+    (f ≤ 6) × (length strides ≡ 6) × ((g : ℕ) → g < f → offsetOf strides g ≡ kernelStride voxels-shape (getD faces g noFace))
 
 abbrev μ-loop : tie.MeasureT-loop
-μ-loop strides₀ voxels-shape faces f₀ strides f = 6 - f
+μ-loop voxels-shape faces strides₀ f₀ strides f = 6 - f
 
 loop-holds : tie.Need-loop-holds Inv-loop μ-loop
-loop-holds c = (omega arith, c .before .pre, λ g h. let none : ⊥ = omega arith in absurd none)
+loop-holds c = (omega arith, refl, λ g h. let none : ⊥ = omega arith in absurd none)
 
 mul-face : tie.Need-mul-face Inv-loop μ-loop
 mul-face c = search needs
@@ -31,8 +32,8 @@ kernel-stride-requires c κs = search needs
 mul-strides : tie.Need-mul-strides Inv-loop μ-loop
 mul-strides c = search needs
 
-slice-write-strides : tie.Need-slice-write-strides Inv-loop μ-loop
-slice-write-strides c = let l = c .before .before .before .loop in omega (arith, l .inv .1)
+array-set-from-strides : tie.Need-array-set-from-strides Inv-loop μ-loop
+array-set-from-strides c = search needs
 
 add-f : tie.Need-add-f Inv-loop μ-loop
 add-f c = search needs
@@ -42,23 +43,15 @@ loop-less c = omega arith
 
 loop-again : tie.Need-loop-again Inv-loop μ-loop
 loop-again c =
-    let a = c .before .before .before .before .before .args in
+    let a = c .before .before .before .before .args in
     let l = c .before .before .before .loop in (
       omega arith,
-      length-set (l .strides) (l .f) (c .kernel-stride .result .0) ∙ l .inv .1,
-      filled-next (λ (g : ℕ). kernelStride (a .voxels-shape) (getD (a .t3) g noFace)) (l .strides) (l .f) _ (omega (arith, l .inv .1)) (c .kernel-stride .ensures) (l .inv .2),
+      length-set (l .strides) (l .f) (c .kernel-stride .result) ∙ l .inv .1,
+      filled-next noStride (λ (g : ℕ) (s : Stride). s .0 ≡ kernelStride (a .voxels-shape) (getD (a .t2) g noFace)) (l .strides) (l .f) _ (omega (arith, l .inv .1)) (c .kernel-stride .ensures) (l .inv .2),
     )
 
-same-length : tie.Need-same-length Inv-loop μ-loop
-same-length c = let l = c .before .loop in l .inv .1 ∙ sym (c .before .before .before .pre)
-
 returns : tie.Need-returns Inv-loop μ-loop
-returns c =
-    let l = c .before .loop in
-    record {
-      all = l .inv .1;
-      each = λ g h. l .inv .2 g (omega (arith, c .loop-test .left));
-    }
+returns c = λ g h. c .before .loop .inv .2 g (omega (arith, c .loop-test .left))
 
 pub kernel-strides-spec : {M : Type 1} → statement M
 kernel-strides-spec =
@@ -71,9 +64,8 @@ kernel-strides-spec =
     array-copy-out-face
     kernel-stride-requires
     mul-strides
-    slice-write-strides
+    array-set-from-strides
     add-f
     loop-less
     loop-again
-    same-length
     returns)

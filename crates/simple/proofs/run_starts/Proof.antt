@@ -53,7 +53,7 @@ loop-again c =
       length-set (l .cursors) (l .f) (l .n) ∙ l .inv .1,
       start-next _ (l .f) (l .n) (l .inv .2),
       omega (arith, l .inv .3),
-      filled-next (startOf _) (l .cursors) (l .f) (l .n) (omega (arith, l .inv .1)) (l .inv .2) (l .inv .4),
+      filled-next 0 (λ (g n : ℕ). n ≡ startOf (c .before .before .before .args .counts .now) g) (l .cursors) (l .f) (l .n) (omega (arith, l .inv .1)) (l .inv .2) (l .inv .4),
     )
 
 same-length : tie.Need-same-length Inv-loop μ-loop

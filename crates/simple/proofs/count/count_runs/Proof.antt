@@ -1,38 +1,38 @@
 -- `count_runs` meets its contract: the faces so far are counted, and the others are as they were.
 use borrow.Author.Needs.{needs}
 use mathlib.Core.Path.{sym, _∙_, ap}
-use Prim.Native.Nat.{ℕ, _-_}
+use Prim.Native.Nat.{ℕ, _+_, _-_}
 use native.Mathlib.Omega.{arith}
 use lib.ListN.{getD}
-use Rattle.simple.specs.Inner.{rowShown}
+use Rattle.simple.specs.Inner.{offsetOf, rowShown}
 use Rattle.simple.proofs.Counted.{beside}
 use Rattle.simple.proofs.Totals.{row-at-most, beside-shown}
-use Rattle.simple.proofs.Counting.{Growing, growing-start, growing-room, growing-on}
+use Rattle.simple.proofs.Sixes.{Growing, growing-start, growing-room, growing-on, growing-done}
 use Rattle.simple.proofs.count.count_runs.Statement.{statement}
 use Rattle.simple.proofs.count.count_runs.Tie as tie
 
 abbrev Inv-loop : tie.InvT-loop
-Inv-loop voxels kernel-strides counts₀ less start long f₀ counts f = Growing counts₀ counts (λ (g : ℕ). rowShown voxels (getD kernel-strides g 0) long (start .0) - getD less g 0) f
+Inv-loop voxels counts₀ less start long kernel-strides f₀ counts f = Growing counts₀ counts (λ (g : ℕ). rowShown voxels (offsetOf kernel-strides g) long (start .0) - getD less g 0) f
 
 abbrev μ-loop : tie.MeasureT-loop
-μ-loop voxels kernel-strides counts₀ less start long f₀ counts f = 6 - f
+μ-loop voxels counts₀ less start long kernel-strides f₀ counts f = 6 - f
 
 loop-holds : tie.Need-loop-holds Inv-loop μ-loop
-loop-holds c = growing-start (c .before .before .before .before .pre .1 .1 .0 .all)
+loop-holds c = growing-start (c .before .before .before .pre .1 .1 .0 .all)
 
-mul-t11 : tie.Need-mul-t11 Inv-loop μ-loop
-mul-t11 c = search needs
+mul-stride : tie.Need-mul-stride Inv-loop μ-loop
+mul-stride c = search needs
 
-shared-slice-read-t13 : tie.Need-shared-slice-read-t13 Inv-loop μ-loop
-shared-slice-read-t13 c = omega (arith, c .before .before .before .before .before .before .before .pre .0 .all, c .before .loop-test .taken)
+array-copy-out-stride : tie.Need-array-copy-out-stride Inv-loop μ-loop
+array-copy-out-stride c = search needs
 
 offset-requires : tie.Need-offset-requires Inv-loop μ-loop
 offset-requires c κs = search needs
 
 count-run-requires : tie.Need-count-run-requires Inv-loop μ-loop
 count-run-requires c κs =
-    let ready = c .before .before .before .before .before .before .before .before .pre .0 .each (c .before .before .before .loop .f) (c .before .before .loop-test .taken) in
-    (beside _ _ _ _ ready _ (c .offset .ensures), c .before .before .before .before .before .before .before .before .pre .1 .0)
+    let ready = c .before .before .before .before .before .before .before .pre .0 (c .before .before .before .loop .f) (c .before .before .loop-test .taken) in
+    (beside _ _ _ _ ready _ (c .offset .ensures), c .before .before .before .before .before .before .before .pre .1 .0)
 
 cast-run : tie.Need-cast-run Inv-loop μ-loop
 cast-run c = search needs
@@ -41,13 +41,13 @@ mul-counts : tie.Need-mul-counts Inv-loop μ-loop
 mul-counts c = search needs
 
 shared-slice-read-counts : tie.Need-shared-slice-read-counts Inv-loop μ-loop
-shared-slice-read-counts c = omega (arith, c .before .before .before .before .before .before .before .before .before .before .pre .1 .1 .1 .all, c .before .before .before .before .loop-test .taken)
+shared-slice-read-counts c = omega (arith, c .before .before .before .before .before .before .before .before .before .pre .1 .1 .1 .all, c .before .before .before .before .loop-test .taken)
 
 sub-counts : tie.Need-sub-counts Inv-loop μ-loop
 sub-counts c =
-    let a = c .before .before .before .before .before .before .before .before .before .before .args in
-    let ready = c .before .before .before .before .before .before .before .before .before .before .pre .0 .each (c .before .before .before .before .before .loop .f) (c .before .before .before .before .loop-test .taken) in
-    omega (arith, c .before .count-run .ensures, beside-shown (a .voxels .now) _ ready (c .before .before .offset .ensures), c .before .before .before .before .before .before .before .before .before .before .pre .1 .1 .1 .each (c .before .before .before .before .before .loop .f) (c .before .before .before .before .loop-test .taken))
+    let a = c .before .before .before .before .before .before .before .before .before .args in
+    let ready = c .before .before .before .before .before .before .before .before .before .pre .0 (c .before .before .before .before .before .loop .f) (c .before .before .before .before .loop-test .taken) in
+    omega (arith, c .before .count-run .ensures, beside-shown (a .voxels .now) _ ready (c .before .before .offset .ensures), c .before .before .before .before .before .before .before .before .before .pre .1 .1 .1 .each (c .before .before .before .before .before .loop .f) (c .before .before .before .before .loop-test .taken))
 
 mul-counts-2 : tie.Need-mul-counts-2 Inv-loop μ-loop
 mul-counts-2 c = search needs
@@ -57,10 +57,10 @@ slice-read-counts c = omega (arith, c .before .before .before .before .before .b
 
 add-counts : tie.Need-add-counts Inv-loop μ-loop
 add-counts c =
-    let a = c .before .before .before .before .before .before .before .before .before .before .before .args in
-    let ready = c .before .before .before .before .before .before .before .before .before .before .before .pre .0 .each (c .before .before .before .before .before .before .loop .f) (c .before .before .before .before .before .loop-test .taken) in
-    let o : ℕ = getD (a .kernel-strides .now) (c .before .before .before .before .before .before .loop .f) 0 in
-    record { fits = omega (arith, c .before .before .count-run .ensures, beside-shown (a .voxels .now) o ready (c .before .before .before .offset .ensures), row-at-most (a .voxels .now) o (a .long) (a .start .0), growing-room (c .before .before .before .before .before .before .loop .inv) (c .before .before .before .before .before .loop-test .taken) (c .before .before .before .before .before .before .before .before .before .before .before .pre .1 .1 .0)) }
+    let a = c .before .before .before .before .before .before .before .before .before .before .args in
+    let ready = c .before .before .before .before .before .before .before .before .before .before .pre .0 (c .before .before .before .before .before .before .loop .f) (c .before .before .before .before .before .loop-test .taken) in
+    let o : ℕ = offsetOf (a .t2) (c .before .before .before .before .before .before .loop .f) in
+    record { fits = omega (arith, c .before .before .count-run .ensures, beside-shown (a .voxels .now) o ready (c .before .before .before .offset .ensures), row-at-most (a .voxels .now) o (a .long) (a .start .0), growing-room (c .before .before .before .before .before .before .loop .inv) (c .before .before .before .before .before .loop-test .taken) (c .before .before .before .before .before .before .before .before .before .before .pre .1 .1 .0)) }
 
 slice-write-counts : tie.Need-slice-write-counts Inv-loop μ-loop
 slice-write-counts c = omega (arith, c .before .before .before .before .before .before .loop .inv .all, c .before .before .before .before .before .loop-test .taken)
@@ -73,17 +73,17 @@ loop-less c = omega arith
 
 loop-again : tie.Need-loop-again Inv-loop μ-loop
 loop-again c =
-    let a = c .before .before .before .before .before .before .before .before .before .before .before .args in
+    let a = c .before .before .before .before .before .before .before .before .before .before .args in
     let l = c .before .before .before .before .before .before .loop in
     let taken = c .before .before .before .before .before .loop-test .taken in
-    let ready = c .before .before .before .before .before .before .before .before .before .before .before .pre .0 .each (l .f) taken in
-    growing-on (l .inv) taken (ap (λ (n : ℕ). n - getD (a .less .now) (l .f) 0) (c .before .before .count-run .ensures ∙ beside-shown (a .voxels .now) _ ready (c .before .before .before .offset .ensures)))
+    let ready = c .before .before .before .before .before .before .before .before .before .before .pre .0 (l .f) taken in
+    growing-on (l .inv) taken (ap (λ (n : ℕ). getD (l .counts) (l .f) 0 + (n - getD (a .less .now) (l .f) 0)) (c .before .before .count-run .ensures ∙ beside-shown (a .voxels .now) _ ready (c .before .before .before .offset .ensures)))
 
 same-length : tie.Need-same-length Inv-loop μ-loop
-same-length c = c .before .loop .inv .all ∙ sym (c .before .before .before .before .before .before .pre .1 .1 .0 .all)
+same-length c = c .before .loop .inv .all ∙ sym (c .before .before .before .before .before .pre .1 .1 .0 .all)
 
 returns : tie.Need-returns Inv-loop μ-loop
-returns c = let l = c .before .loop .inv in record { each = λ f h. l .grown f (omega (arith, c .loop-test .left)); all = l .all }
+returns c = growing-done (c .before .loop .inv) (c .loop-test .left)
 
 pub count-runs-spec : {M : Type 1} → statement M
 count-runs-spec =
@@ -92,8 +92,8 @@ count-runs-spec =
     Inv-loop
     μ-loop
     loop-holds
-    mul-t11
-    shared-slice-read-t13
+    mul-stride
+    array-copy-out-stride
     offset-requires
     count-run-requires
     cast-run

@@ -1,20 +1,23 @@
 -- `count_voxel` meets its contract: the faces so far are counted, and the others are as they were.
 use borrow.Author.Needs.{needs}
+use mathlib.Core.Bool.{Bool}
 use mathlib.Core.Logic.{⊎-elim}
-use mathlib.Core.Path.{sym, _∙_}
-use Prim.Native.Nat.{ℕ, _-_}
+use mathlib.Core.Path.{refl, sym, _∙_, ap}
+use Prim.Native.Nat.{ℕ, _+_, _-_}
 use native.Mathlib.Omega.{arith}
 use lib.ListN.{getD}
-use Rattle.simple.specs.Inner.{shownAt}
-use Rattle.simple.proofs.Counting.{Growing, growing-start, growing-room, growing-on, growing-still, in-sight, out-of-sight, none-in-sight}
+use Rattle.geometry.specs.Axes.{bit}
+use Rattle.simple.specs.Inner.{offsetOf, shownAt}
+use Rattle.simple.proofs.Counted.{seen, unseen}
+use Rattle.simple.proofs.Sixes.{counted-none, Growing, growing-start, growing-room, growing-on, growing-still, growing-done}
 use Rattle.simple.proofs.count.count_voxel.Statement.{statement}
 use Rattle.simple.proofs.count.count_voxel.Tie as tie
 
 abbrev Inv-loop : tie.InvT-loop
-Inv-loop voxels kernel-strides counts₀ index i sight f₀ counts f = Growing counts₀ counts (λ (g : ℕ). shownAt voxels (getD kernel-strides g 0) (index .0)) f
+Inv-loop voxels counts₀ index kernel-strides i sight f₀ counts f = Growing counts₀ counts (λ (g : ℕ). shownAt voxels (offsetOf kernel-strides g) (index .0)) f
 
 abbrev μ-loop : tie.MeasureT-loop
-μ-loop voxels kernel-strides counts₀ index i sight f₀ counts f = 6 - f
+μ-loop voxels counts₀ index kernel-strides i sight f₀ counts f = 6 - f
 
 cast-i : tie.Need-cast-i Inv-loop μ-loop
 cast-i c = search needs
@@ -23,24 +26,26 @@ mul-sight : tie.Need-mul-sight Inv-loop μ-loop
 mul-sight c = search needs
 
 shared-slice-read-sight : tie.Need-shared-slice-read-sight Inv-loop μ-loop
-shared-slice-read-sight c = c .before .before .before .before .before .pre .0 .0
+shared-slice-read-sight c = c .before .before .before .before .pre .0 .0
 
 sight-requires : tie.Need-sight-requires Inv-loop μ-loop
 sight-requires c κs = search needs
 
 returns : tie.Need-returns Inv-loop μ-loop
+unfolding shownAt
 returns c =
-    let a = c .before .before .before .before .before .before .before .args in
-    none-in-sight (a .voxels .now) (a .kernel-strides .now) (a .counts .now) (a .index .0) (c .before .before .before .before .before .before .before .pre .0 .1) (c .before .sight .ensures) (c .if1 .taken) (c .before .before .before .before .before .before .before .pre .1 .1 .all)
+    let a = c .before .before .before .before .before .before .args in
+    counted-none _ (c .before .before .before .before .before .before .pre .1 .1 .all)
+    (λ f. ap bit (unseen (a .voxels .now) (offsetOf (a .t2) f) (a .index .0) (c .before .before .before .before .before .before .pre .0 .1) (c .before .sight .ensures) refl (omega (arith, c .if1 .taken))))
 
 loop-holds : tie.Need-loop-holds Inv-loop μ-loop
-loop-holds c = growing-start (c .before .before .before .before .before .before .before .pre .1 .1 .all)
+loop-holds c = growing-start (c .before .before .before .before .before .before .pre .1 .1 .all)
 
-mul-t15 : tie.Need-mul-t15 Inv-loop μ-loop
-mul-t15 c = search needs
+mul-stride : tie.Need-mul-stride Inv-loop μ-loop
+mul-stride c = search needs
 
-shared-slice-read-t17 : tie.Need-shared-slice-read-t17 Inv-loop μ-loop
-shared-slice-read-t17 c = omega (arith, c .before .before .before .before .before .before .before .before .before .before .pre .1 .0 .all, c .before .loop-test .taken)
+array-copy-out-stride : tie.Need-array-copy-out-stride Inv-loop μ-loop
+array-copy-out-stride c = search needs
 
 offset-requires : tie.Need-offset-requires Inv-loop μ-loop
 offset-requires c κs = search needs
@@ -53,7 +58,7 @@ mul-if2 c = search needs
 
 shared-slice-read-if2 : tie.Need-shared-slice-read-if2 Inv-loop μ-loop
 shared-slice-read-if2 c =
-    let beyond = c .before .before .before .before .before .before .before .before .before .before .before .before .before .pre .1 .0 .each (c .before .before .before .before .before .loop .f) (c .before .before .before .before .loop-test .taken) in
+    let beyond = c .before .before .before .before .before .before .before .before .before .before .before .before .pre .1 .0 (c .before .before .before .before .before .loop .f) (c .before .before .before .before .loop-test .taken) in
     rw (c .before .before .offset .ensures) beyond
 
 mul-counts : tie.Need-mul-counts Inv-loop μ-loop
@@ -63,7 +68,7 @@ slice-read-counts : tie.Need-slice-read-counts Inv-loop μ-loop
 slice-read-counts c = omega (arith, c .before .before .before .before .before .before .before .loop .inv .all, c .before .before .before .before .before .before .loop-test .taken)
 
 add-counts : tie.Need-add-counts Inv-loop μ-loop
-add-counts c = record { fits = omega (arith, growing-room (c .before .before .before .before .before .before .before .loop .inv) (c .before .before .before .before .before .before .loop-test .taken) (c .before .before .before .before .before .before .before .before .before .before .before .before .before .before .before .pre .1 .1)) }
+add-counts c = record { fits = omega (arith, growing-room (c .before .before .before .before .before .before .before .loop .inv) (c .before .before .before .before .before .before .loop-test .taken) (c .before .before .before .before .before .before .before .before .before .before .before .before .before .before .pre .1 .1)) }
 
 slice-write-counts : tie.Need-slice-write-counts Inv-loop μ-loop
 slice-write-counts c = omega (arith, c .before .before .before .before .before .before .before .loop .inv .all, c .before .before .before .before .before .before .loop-test .taken)
@@ -75,23 +80,24 @@ loop-less : tie.Need-loop-less Inv-loop μ-loop
 loop-less c = omega arith
 
 loop-again : tie.Need-loop-again Inv-loop μ-loop
+unfolding shownAt
 loop-again c =
-    let a = c .before .before .before .before .before .before .before .before .before .before .before .before .before .before .args in
+    let a = c .before .before .before .before .before .before .before .before .before .before .before .before .before .args in
     let l = c .before .before .before .before .before .before .loop in
     let taken = c .before .before .before .before .before .loop-test .taken in
-    let sound = c .before .before .before .before .before .before .before .before .before .before .before .before .before .before .pre .0 .1 in
+    let sound = c .before .before .before .before .before .before .before .before .before .before .before .before .before .pre .0 .1 in
     let sight = c .before .before .before .before .before .before .before .before .sight .ensures in
     let at-j = c .before .before .before .offset .ensures in
     ⊎-elim
-    (λ w. rw (w .2) (growing-on (l .inv) taken (in-sight (a .voxels .now) _ (a .index .0) sound sight at-j (w .0 .taken))))
-    (λ w. rw (w .1) (growing-still (l .inv) taken (out-of-sight (a .voxels .now) _ (a .index .0) sound sight at-j (w .0 .left))))
+    (λ w. rw (w .2) (growing-on (l .inv) taken (ap (λ (b : Bool). getD (l .counts) (l .f) 0 + bit b) (sym (seen (a .voxels .now) _ (a .index .0) sound sight at-j (w .0 .taken))))))
+    (λ w. rw (w .1) (growing-still (l .inv) taken (ap bit (unseen (a .voxels .now) _ (a .index .0) sound sight at-j (w .0 .left)))))
     (c .if2 .came)
 
 same-length : tie.Need-same-length Inv-loop μ-loop
-same-length c = c .before .loop .inv .all ∙ sym (c .before .before .before .before .before .before .before .before .before .pre .1 .1 .all)
+same-length c = c .before .loop .inv .all ∙ sym (c .before .before .before .before .before .before .before .before .pre .1 .1 .all)
 
 returns-2 : tie.Need-returns-2 Inv-loop μ-loop
-returns-2 c = let l = c .before .loop .inv in record { each = λ f h. l .grown f (omega (arith, c .loop-test .left)); all = l .all }
+returns-2 c = growing-done (c .before .loop .inv) (c .loop-test .left)
 
 pub count-voxel-spec : {M : Type 1} → statement M
 count-voxel-spec =
@@ -105,8 +111,8 @@ count-voxel-spec =
     sight-requires
     returns
     loop-holds
-    mul-t15
-    shared-slice-read-t17
+    mul-stride
+    array-copy-out-stride
     offset-requires
     cast-j
     mul-if2

@@ -1,20 +1,24 @@
 -- `list_voxel` meets its contract: the quads of the faces so far are listed, and the other faces' cursors stand where they stood.
 use borrow.Author.Needs.{needs}
+use mathlib.Core.Bool.{Bool}
+use mathlib.Core.List.{List}
 use mathlib.Core.Logic.{⊎-elim}
-use mathlib.Core.Path.{refl, sym, _∙_}
+use mathlib.Core.Path.{refl, sym, _∙_, ap}
 use Prim.Native.Nat.{ℕ, _-_}
 use native.Mathlib.Omega.{arith}
-use Rattle.geometry.specs.Point.{at}
-use Rattle.simple.specs.Inner.{voxelQuad}
-use Rattle.simple.proofs.Cursors.{Faced, faces-start, faces-hidden, faces-shown, faces-done, faces-none, seen, unseen}
+use Rattle.geometry.specs.Point.{Point, at}
+use Rattle.voxels.specs.Inner.{keptIf}
+use Rattle.simple.specs.Inner.{offsetOf, voxelQuad}
+use Rattle.simple.proofs.Counted.{seen, unseen}
+use Rattle.simple.proofs.Cursors.{Faced, faces-start, faces-hidden, faces-shown, faces-done, faces-none}
 use Rattle.simple.proofs.list.list_voxel.Statement.{statement}
 use Rattle.simple.proofs.list.list_voxel.Tie as tie
 
 abbrev Inv-loop : tie.InvT-loop
-Inv-loop voxels out₀ capacity kernel-strides cursors₀ index x y z i sight f₀ out cursors f = Faced kernel-strides out₀ cursors₀ (λ (o : ℕ). voxelQuad voxels o y z x (index .0)) out cursors f
+Inv-loop voxels out₀ capacity cursors₀ index x y z kernel-strides i sight f₀ out cursors f = Faced out₀ cursors₀ (λ (f : ℕ). voxelQuad voxels (offsetOf kernel-strides f) y z x (index .0)) out cursors f
 
 abbrev μ-loop : tie.MeasureT-loop
-μ-loop voxels out₀ capacity kernel-strides cursors₀ index x y z i sight f₀ out cursors f = 6 - f
+μ-loop voxels out₀ capacity cursors₀ index x y z kernel-strides i sight f₀ out cursors f = 6 - f
 
 cast-i : tie.Need-cast-i Inv-loop μ-loop
 cast-i c = search needs
@@ -29,19 +33,20 @@ sight-requires : tie.Need-sight-requires Inv-loop μ-loop
 sight-requires c κs = search needs
 
 returns : tie.Need-returns Inv-loop μ-loop
+unfolding voxelQuad
 returns c =
-    let a = c .before .before .before .before .before .before .before .before .args in
-    let h = c .before .before .before .before .before .before .before .before .pre in
-    faces-none (h .1 .1 .1 .all) (λ f b. unseen (a .voxels .now) _ _ _ _ _ _ _ (h .1 .0 .1) (c .before .sight .ensures) refl (omega (arith, c .if1 .taken)))
+    let a = c .before .before .before .before .before .before .before .args in
+    let h = c .before .before .before .before .before .before .before .pre in
+    faces-none (h .1 .1 .1 .all) (λ f. ap (λ (b : Bool). keptIf b (at (a .x) (a .y) (a .z))) (unseen (a .voxels .now) (offsetOf (a .t4) f) (a .index .0) (h .1 .0 .1) (c .before .sight .ensures) refl (omega (arith, c .if1 .taken))))
 
 loop-holds : tie.Need-loop-holds Inv-loop μ-loop
-loop-holds c = faces-start (c .before .before .before .before .before .before .before .before .pre .1 .1 .1 .all)
+loop-holds c = faces-start (c .before .before .before .before .before .before .before .pre .1 .1 .1 .all)
 
-mul-t20 : tie.Need-mul-t20 Inv-loop μ-loop
-mul-t20 c = search needs
+mul-stride : tie.Need-mul-stride Inv-loop μ-loop
+mul-stride c = search needs
 
-shared-slice-read-t22 : tie.Need-shared-slice-read-t22 Inv-loop μ-loop
-shared-slice-read-t22 c = omega (arith, c .before .before .before .before .before .before .before .before .before .before .before .pre .1 .1 .0 .all)
+array-copy-out-stride : tie.Need-array-copy-out-stride Inv-loop μ-loop
+array-copy-out-stride c = search needs
 
 offset-requires : tie.Need-offset-requires Inv-loop μ-loop
 offset-requires c κs = search needs
@@ -53,25 +58,25 @@ mul-if2 : tie.Need-mul-if2 Inv-loop μ-loop
 mul-if2 c = search needs
 
 shared-slice-read-if2 : tie.Need-shared-slice-read-if2 Inv-loop μ-loop
-shared-slice-read-if2 c = rw (c .before .before .offset .ensures) (c .before .before .before .before .before .before .before .before .before .before .before .before .before .before .pre .1 .1 .0 .each (c .before .before .before .before .before .loop .f) (c .before .before .before .before .loop-test .taken))
+shared-slice-read-if2 c = rw (c .before .before .offset .ensures) (c .before .before .before .before .before .before .before .before .before .before .before .before .before .pre .1 .1 .0 (c .before .before .before .before .before .loop .f) (c .before .before .before .before .loop-test .taken))
 
 mul-push : tie.Need-mul-push Inv-loop μ-loop
 mul-push c = search needs
 
 slice-read-push : tie.Need-slice-read-push Inv-loop μ-loop
-slice-read-push c = omega (arith, c .before .before .before .before .before .before .before .before .loop .inv .all)
+slice-read-push c = omega (arith, c .before .before .before .before .before .before .before .before .loop .inv .moved .all)
 
 push-requires : tie.Need-push-requires Inv-loop μ-loop
 push-requires c κs =
     let l = c .before .before .before .before .before .before .before .before .loop in
-    let h = c .before .before .before .before .before .before .before .before .before .before .before .before .before .before .before .before .before .pre in
-    (rw (l .inv .long) (h .0), omega (arith, l .inv .kept (l .f) (omega arith), h .1 .1 .1 .each (l .f) (c .before .before .before .before .before .before .before .loop-test .taken)))
+    let h = c .before .before .before .before .before .before .before .before .before .before .before .before .before .before .before .before .pre in
+    (rw (l .inv .long) (h .0), omega (arith, l .inv .moved .left (l .f) (omega arith), h .1 .1 .1 .each (l .f) (c .before .before .before .before .before .before .before .loop-test .taken)))
 
 mul-cursors : tie.Need-mul-cursors Inv-loop μ-loop
 mul-cursors c = search needs
 
 slice-write-cursors : tie.Need-slice-write-cursors Inv-loop μ-loop
-slice-write-cursors c = omega (arith, c .before .before .before .before .before .before .before .before .before .before .before .loop .inv .all)
+slice-write-cursors c = omega (arith, c .before .before .before .before .before .before .before .before .before .before .before .loop .inv .moved .all)
 
 add-f : tie.Need-add-f Inv-loop μ-loop
 add-f c = search needs
@@ -80,23 +85,25 @@ loop-less : tie.Need-loop-less Inv-loop μ-loop
 loop-less c = omega arith
 
 loop-again : tie.Need-loop-again Inv-loop μ-loop
+unfolding voxelQuad
 loop-again c =
-    let a = c .before .before .before .before .before .before .before .before .before .before .before .before .before .before .before .args in
-    let h = c .before .before .before .before .before .before .before .before .before .before .before .before .before .before .before .pre in
+    let a = c .before .before .before .before .before .before .before .before .before .before .before .before .before .before .args in
+    let h = c .before .before .before .before .before .before .before .before .before .before .before .before .before .before .pre in
     let l = c .before .before .before .before .before .before .loop in
     let taken = c .before .before .before .before .before .loop-test .taken in
     let sight = c .before .before .before .before .before .before .before .before .sight .ensures in
     let beside = c .before .before .before .offset .ensures in
+    let listed : Bool → List Point = λ b. keptIf b (at (a .x) (a .y) (a .z)) in
     ⊎-elim
-    (λ w. rw (w .6, w .7) (faces-shown (l .inv) taken (at (a .x) (a .y) (a .z)) (seen (a .voxels .now) _ _ _ _ _ _ _ (h .1 .0 .1) sight beside (w .0 .taken)) (w .3 .ensures) (w .3 .kept .0)))
-    (λ w. rw (w .1, w .2) (faces-hidden (l .inv) taken (unseen (a .voxels .now) _ _ _ _ _ _ _ (h .1 .0 .1) sight beside (w .0 .left))))
+    (λ w. rw (w .6, w .7) (faces-shown (l .inv) taken (at (a .x) (a .y) (a .z)) (ap listed (seen (a .voxels .now) _ (a .index .0) (h .1 .0 .1) sight beside (w .0 .taken))) (w .3 .ensures) (w .3 .kept .0)))
+    (λ w. rw (w .1, w .2) (faces-hidden (l .inv) taken (ap listed (unseen (a .voxels .now) _ (a .index .0) (h .1 .0 .1) sight beside (w .0 .left)))))
     (c .if2 .came)
 
 same-length : tie.Need-same-length Inv-loop μ-loop
 same-length c = c .before .loop .inv .long
 
 same-length-2 : tie.Need-same-length-2 Inv-loop μ-loop
-same-length-2 c = c .before .loop .inv .all ∙ sym (c .before .before .before .before .before .before .before .before .before .before .pre .1 .1 .1 .all)
+same-length-2 c = c .before .loop .inv .moved .all ∙ sym (c .before .before .before .before .before .before .before .before .before .pre .1 .1 .1 .all)
 
 returns-2 : tie.Need-returns-2 Inv-loop μ-loop
 returns-2 c = faces-done (c .before .loop .inv) (c .loop-test .left)
@@ -113,8 +120,8 @@ list-voxel-spec =
     sight-requires
     returns
     loop-holds
-    mul-t20
-    shared-slice-read-t22
+    mul-stride
+    array-copy-out-stride
     offset-requires
     cast-j
     mul-if2
