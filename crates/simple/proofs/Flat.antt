@@ -11,6 +11,7 @@ use Rattle.geometry.proofs.Refusals.{split}
 use Rattle.voxels.specs.Visible.{offsetIndex}
 use Rattle.voxels.specs.Inner.{mostVoxels, longest}
 use Rattle.simple.specs.Inner.{shownAt, rowShown, sliceShown, Sound, SliceSound, RowReady, SliceReady, Flat, Within, Counted}
+use Rattle.simple.proofs.Neighbours.{on-way}
 use Rattle.simple.proofs.Totals.{total-flat}
 use Rattle.simple.proofs.Sixes.{counted-zeros}
 
@@ -37,10 +38,6 @@ join-sound vs i m n first next k h =
     split (ltb k m)
     (λ t. first k (ltb-true k m t))
     (λ f. let l = ltb-false k m f in let e : i + m + (k - m) ≡ i + k = omega arith in rw e at (next (k - m) (omega arith)))
-
--- The neighbours' indices do not wrap on the way.
-on-way : (o i m : ℕ) → offsetIndex i o ≤ 2 * mostVoxels → m ≤ longest → offsetIndex (i + m) o ≡ offsetIndex i o + m
-on-way o i m h l = omega arith
 
 -- What lies before a run's last voxel was lent where that was.
 up-to : (x lent k m wide : ℕ) → k < m + wide → x + (m + (wide - 1)) < lent → x + k < lent

@@ -1,6 +1,6 @@
 -- Laws. A function's own proof stands in the folder named after it.
--- Of what a voxel shows, and of counting a run.
-pub mod Counted
+-- Of what a voxel shows to its neighbour.
+pub mod Neighbours
 -- Of sums over indices, and how many quads are listed.
 pub mod Totals
 -- Of six numbers, one a face.

@@ -5,13 +5,14 @@ use mathlib.Core.Path.{_≡_, refl}
 use Prim.Native.Nat.{ℕ, zero, suc, _+_, _*_, _≤_, _<_}
 use native.Mathlib.Nat.{add-zero, zero-add, suc-add, zero-mul, suc-mul, mul-one}
 use native.Mathlib.Omega.{arith}
-use lib.ListN.{length, length-append}
+use lib.ListN.{length, getD, length-append}
 use Rattle.geometry.specs.Axes.{bit}
 use Rattle.geometry.specs.Point.{at}
+use Rattle.voxels.specs.Voxel.{shows}
 use Rattle.voxels.specs.Visible.{offsetIndex}
 use Rattle.voxels.specs.Inner.{keptIf, inStep}
-use Rattle.simple.specs.Inner.{showsAt, shownBeside, voxelQuad, rowQuads, sliceQuads, slicesQuads, total, shownAt, rowShown, sliceShown, slicesShown, RowReady}
-use Rattle.simple.proofs.Counted.{bit-at-most, beyond-at}
+use Rattle.simple.specs.Inner.{showsAt, voxelQuad, rowQuads, sliceQuads, slicesQuads, total, shownAt, rowShown, sliceShown, slicesShown, RowReady}
+use Rattle.simple.proofs.Neighbours.{bit-at-most, beyond-at}
 
 -- ---- any sum
 
@@ -69,17 +70,10 @@ module _ (vs : List ℕ) (o : ℕ) where
   unfolding slicesShown
   slices-at-most wide d high e deep i = total-at-most (sliceShown vs o wide d high) (high * wide) e deep i (slice-at-most wide d high)
 
-  -- Two runs side by side, the second of the neighbours of the first.
-  side-by-side : (n i j : ℕ) → ((k : ℕ) → k < n → j + k ≡ offsetIndex (i + k) o) → shownBeside vs i j n ≡ rowShown vs o n i
-  unfolding rowShown total shownBeside shownAt showsAt
-  side-by-side zero i j same = refl
-  side-by-side (suc n) i j same =
-      let at-first : j ≡ offsetIndex i o = rw (add-zero, add-zero) at (same 0 (omega arith)) in
-      rw (← at-first, side-by-side n (i + 1) (j + 1) (λ k h. let on : i + suc k ≡ i + 1 + k = omega arith in omega (arith, rw on at (same (suc k) (omega arith)))))
-
-  -- A run beside the run of its neighbours shows what it shows to them.
-  pub beside-shown : {lent i wide : ℕ} → RowReady lent o i wide → {j : ℕ} → j ≡ offsetIndex i o → shownBeside vs i j wide ≡ rowShown vs o wide i
-  beside-shown ready e = side-by-side _ _ _ (λ k h. rw e (beyond-at _ o _ _ ready k h))
+  -- One more voxel of a row, whose neighbour is as far from the first's.
+  pub row-next : {lent i wide j : ℕ} → RowReady lent o i wide → j ≡ offsetIndex i o → (k : ℕ) → k < wide → {c s : ℕ} → c ≡ rowShown vs o k i → s ≡ bit (shows (getD vs (i + k) 0) (getD vs (j + k) 0)) → c + s ≡ rowShown vs o (k + 1) i
+  unfolding rowShown shownAt showsAt
+  row-next {lent} {i} {wide} ready at-j k h is e = rw (is, e, total-more (shownAt vs o) 1 i k, mul-one k, at-j, beyond-at lent o i wide ready k h)
 
 -- ---- how many quads are listed
 

@@ -35,11 +35,6 @@ offsetOf strides f = getD strides f noStride .0
 unfoldable pub showsAt : List ℕ → ℕ → ℕ → Bool
 showsAt voxels offset i = shows (getD voxels i 0) (getD voxels (offsetIndex i offset) 0)
 
--- How many of the n voxels from an index on show their faces to those from another on.
-unfoldable pub shownBeside : List ℕ → ℕ → ℕ → ℕ → ℕ
-shownBeside voxels i j zero = 0
-shownBeside voxels i j (suc n) = bit (shows (getD voxels i 0) (getD voxels j 0)) + shownBeside voxels (i + 1) (j + 1) n
-
 -- The unit quad of a voxel, from its y, z, x and index, or none.
 unfoldable pub voxelQuad : List ℕ → ℕ → ℕ → ℕ → ℕ → ℕ → List Point
 voxelQuad voxels offset y z x i = keptIf (showsAt voxels offset i) (at x y z)
@@ -143,12 +138,6 @@ pub record Within (numbers : List ℕ) (most : ℕ → ℕ) : Type 0 where
 -- Each face's run of quads ends before the next face's begins.
 abbrev pub Apart : List ℕ → (ℕ → List Point) → Type 0
 Apart cursors quads = (f : ℕ) → suc f < 6 → getD cursors f 0 + length (quads f) ≤ getD cursors (suc f) 0
-
--- The voxels of two rows were lent, and a row is short enough to be counted.
-pub record Beside (lent i j wide : ℕ) : Type 0 where
-  pub here : (k : ℕ) → k < wide → i + k < lent
-  pub beyond : (k : ℕ) → k < wide → j + k < lent
-  pub short : wide ≤ longest
 
 -- The voxels of a row and their neighbours were lent, and the neighbours' indices do not wrap on the way.
 pub record RowReady (lent offset i wide : ℕ) : Type 0 where

@@ -11,7 +11,7 @@ ghost use Rattle.geometry.specs.Axes.{bit};
 ghost use Rattle.voxels.specs.Voxel as rule;
 ghost use Rattle.voxels.specs.Visible.{offsetIndex};
 ghost use Rattle.voxels.specs.Inner.{mostVoxels};
-ghost use Rattle.simple.specs.Inner.{offsetOf, shownAt, shownBeside, rowShown, sliceShown, slicesShown, Beside, RowReady, SliceReady, SlicesReady, EachFace, Room, Sound, SliceSound, SlicesSound, Flat, Within, Counted};
+ghost use Rattle.simple.specs.Inner.{offsetOf, shownAt, rowShown, sliceShown, slicesShown, RowReady, SliceReady, SlicesReady, EachFace, Room, Sound, SliceSound, SlicesSound, Flat, Within, Counted};
 use voxels::index::Stride;
 use voxels::index::VoxelIndex;
 use voxels::voxel;
@@ -30,12 +30,13 @@ fn shown(voxel: u16, neighbor: u16) -> u16
     0
 }
 
-// How many voxels of a run show their faces to the run beyond.
-fn count_run(voxels: &[u16], start: VoxelIndex, beyond: VoxelIndex, long: u32) -> u16
-    requires { ⌜ Beside (length (now voxels)) (start .0) (beyond .0) long ⌝ }
+// How many voxels of a run show their faces to those that a stride leads to.
+fn count_run(voxels: &[u16], start: VoxelIndex, stride: Stride, long: u32) -> u16
+    requires { ⌜ RowReady (length (now voxels)) (stride .0) (start .0) long ⌝ }
     requires { ⌜ Sound (now voxels) (start .0) long ⌝ }
-    ensures { λ r. ⌜ r ≡ shownBeside (now (voxels .entry)) (start .0) (beyond .0) long ⌝ }
+    ensures { λ r. ⌜ r ≡ rowShown (now (voxels .entry)) (stride .0) long (start .0) ⌝ }
 {
+    let beyond = start.offset(stride);
     let i = start.0 as usize;
     let j = beyond.0 as usize;
     let mut count: u16 = 0;
@@ -137,8 +138,7 @@ fn count_runs(
     let mut f: usize = 0;
     while f < 6 {
         let stride = kernel_strides[f];
-        let beyond = start.offset(stride);
-        let run = count_run(voxels, start, beyond, long) as u64;
+        let run = count_run(voxels, start, stride, long) as u64;
         counts[f] += run - less[f];
         f += 1;
     }

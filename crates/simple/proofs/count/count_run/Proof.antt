@@ -1,18 +1,24 @@
--- `count_run` meets its contract: what is counted and what is left make the whole.
+-- `count_run` meets its contract: what the voxels so far show is counted.
 use borrow.Author.Needs.{needs}
-use mathlib.Core.Path.{_≡_}
-use Prim.Native.Nat.{_+_, _-_, _≤_}
+use mathlib.Core.Path.{_≡_, refl}
+use Prim.Native.Nat.{ℕ, _+_, _-_, _≤_}
 use native.Mathlib.Omega.{arith}
-use Rattle.simple.specs.Inner.{shownBeside}
-use Rattle.simple.proofs.Counted.{count-start, count-on, count-done, count-small}
+use lib.ListN.{length}
+use Rattle.voxels.specs.Visible.{offsetIndex}
+use Rattle.simple.specs.Inner.{total, rowShown, RowReady}
+use Rattle.simple.proofs.Neighbours.{beyond-at}
+use Rattle.simple.proofs.Totals.{row-at-most, row-next}
 use Rattle.simple.proofs.count.count_run.Statement.{statement}
 use Rattle.simple.proofs.count.count_run.Tie as tie
 
 abbrev Inv-loop : tie.InvT-loop
-Inv-loop voxels long i j count₀ k₀ n count k = (k ≤ long) × (count ≤ k) × (count + shownBeside voxels (i + k) (j + k) (long - k) ≡ shownBeside voxels i j long)
+Inv-loop voxels long i j count₀ k₀ n count k = (k ≤ long) × ((o : ℕ) → RowReady (length voxels) o i long → j ≡ offsetIndex i o → count ≡ rowShown voxels o k i)
 
 abbrev μ-loop : tie.MeasureT-loop
 μ-loop voxels long i j count₀ k₀ n count k = long - k
+
+offset-requires : tie.Need-offset-requires Inv-loop μ-loop
+offset-requires c κs = search needs
 
 cast-i : tie.Need-cast-i Inv-loop μ-loop
 cast-i c = search needs
@@ -21,7 +27,8 @@ cast-j : tie.Need-cast-j Inv-loop μ-loop
 cast-j c = search needs
 
 loop-holds : tie.Need-loop-holds Inv-loop μ-loop
-loop-holds c = (search needs, search needs, count-start _ _ _ _)
+unfolding rowShown total
+loop-holds c = (search needs, λ o ready at-j. refl)
 
 add-shown : tie.Need-add-shown Inv-loop μ-loop
 add-shown c = search needs
@@ -30,7 +37,7 @@ mul-shown : tie.Need-mul-shown Inv-loop μ-loop
 mul-shown c = search needs
 
 shared-slice-read-shown : tie.Need-shared-slice-read-shown Inv-loop μ-loop
-shared-slice-read-shown c = c .before .before .before .before .before .before .pre .0 .here (c .before .before .loop .k) (c .before .loop-test .taken)
+shared-slice-read-shown c = c .before .before .before .before .before .before .before .pre .0 .here (c .before .before .loop .k) (c .before .loop-test .taken)
 
 add-shown-2 : tie.Need-add-shown-2 Inv-loop μ-loop
 add-shown-2 c = search needs
@@ -39,13 +46,31 @@ mul-shown-2 : tie.Need-mul-shown-2 Inv-loop μ-loop
 mul-shown-2 c = search needs
 
 shared-slice-read-shown-2 : tie.Need-shared-slice-read-shown-2 Inv-loop μ-loop
-shared-slice-read-shown-2 c = c .before .before .before .before .before .before .before .pre .0 .beyond (c .before .before .before .loop .k) (c .before .before .loop-test .taken)
+shared-slice-read-shown-2 c =
+    let ready = c .before .before .before .before .before .before .before .before .pre .0 in
+    let k = c .before .before .before .loop .k in
+    let taken = c .before .before .loop-test .taken in
+    rw (c .before .before .before .before .before .before .offset .ensures, beyond-at _ _ _ _ ready k taken) (ready .beyond k taken)
 
 shown-requires : tie.Need-shown-requires Inv-loop μ-loop
-shown-requires c κs = c .before .before .before .before .before .before .before .pre .1 (c .before .before .before .loop .k) (c .before .before .loop-test .taken)
+shown-requires c κs = c .before .before .before .before .before .before .before .before .pre .1 (c .before .before .before .loop .k) (c .before .before .loop-test .taken)
 
 add-count : tie.Need-add-count Inv-loop μ-loop
-add-count c = let a = c .before .before .before .before .before .before .before .before .args in record { fits = omega (arith, count-small (a .voxels .now) (a .start .0) (a .beyond .0) _ _ _ (c .shown .ensures) (c .before .before .before .before .loop .inv .1)) }
+add-count c =
+    let a = c .before .before .before .before .before .before .before .before .before .args in
+    let ready = c .before .before .before .before .before .before .before .before .before .pre .0 in
+    let l = c .before .before .before .before .loop in
+    let taken = c .before .before .before .loop-test .taken in
+    let at-j = c .before .before .before .before .before .before .before .offset .ensures in
+    record {
+      fits = omega (
+        arith,
+        row-next (a .voxels .now) (a .stride .0) ready at-j (l .k) taken (l .inv .1 (a .stride .0) ready at-j) (c .shown .ensures),
+        row-at-most (a .voxels .now) (a .stride .0) (l .k + 1) (a .start .0),
+        taken,
+        ready .short,
+      );
+    }
 
 add-k : tie.Need-add-k Inv-loop μ-loop
 add-k c = search needs
@@ -55,11 +80,14 @@ loop-less c = omega arith
 
 loop-again : tie.Need-loop-again Inv-loop μ-loop
 loop-again c =
-    let a = c .before .before .before .before .before .before .before .before .args in
-    (omega arith, count-small (a .voxels .now) (a .start .0) (a .beyond .0) _ _ _ (c .shown .ensures) (c .before .before .before .before .loop .inv .1), count-on _ _ _ _ _ _ _ _ (c .before .before .before .loop-test .taken) (c .shown .ensures) (c .before .before .before .before .loop .inv .2))
+    let l = c .before .before .before .before .loop in
+    (omega arith, λ o ready at-j. row-next _ o ready at-j (l .k) (c .before .before .before .loop-test .taken) (l .inv .1 o ready at-j) (c .shown .ensures))
 
 returns : tie.Need-returns Inv-loop μ-loop
-returns c = count-done _ _ _ _ _ _ _ (c .loop-test .left) (c .before .loop .inv .2)
+returns c =
+    let l = c .before .loop in
+    let all : l .k ≡ c .before .before .before .before .before .before .args .long = omega (arith, l .inv .0, c .loop-test .left) in
+    rw all at (l .inv .1 (c .before .before .before .before .before .before .args .stride .0) (c .before .before .before .before .before .before .pre .0) (c .before .before .before .before .offset .ensures))
 
 pub count-run-spec : {M : Type 1} → statement M
 count-run-spec =
@@ -67,6 +95,7 @@ count-run-spec =
     (tie.spec
     Inv-loop
     μ-loop
+    offset-requires
     cast-i
     cast-j
     loop-holds

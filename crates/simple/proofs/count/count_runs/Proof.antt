@@ -5,8 +5,7 @@ use Prim.Native.Nat.{ℕ, _+_, _-_}
 use native.Mathlib.Omega.{arith}
 use lib.ListN.{getD}
 use Rattle.simple.specs.Inner.{offsetOf, rowShown}
-use Rattle.simple.proofs.Counted.{beside}
-use Rattle.simple.proofs.Totals.{row-at-most, beside-shown}
+use Rattle.simple.proofs.Totals.{row-at-most}
 use Rattle.simple.proofs.Sixes.{Growing, growing-start, growing-room, growing-on, growing-done}
 use Rattle.simple.proofs.count.count_runs.Statement.{statement}
 use Rattle.simple.proofs.count.count_runs.Tie as tie
@@ -26,13 +25,10 @@ mul-stride c = search needs
 array-copy-out-stride : tie.Need-array-copy-out-stride Inv-loop μ-loop
 array-copy-out-stride c = search needs
 
-offset-requires : tie.Need-offset-requires Inv-loop μ-loop
-offset-requires c κs = search needs
-
 count-run-requires : tie.Need-count-run-requires Inv-loop μ-loop
 count-run-requires c κs =
-    let ready = c .before .before .before .before .before .before .before .pre .0 (c .before .before .before .loop .f) (c .before .before .loop-test .taken) in
-    (beside _ _ _ _ ready _ (c .offset .ensures), c .before .before .before .before .before .before .before .pre .1 .0)
+    let pre = c .before .before .before .before .before .before .pre in
+    (pre .0 (c .before .before .loop .f) (c .before .loop-test .taken), pre .1 .0)
 
 cast-run : tie.Need-cast-run Inv-loop μ-loop
 cast-run c = search needs
@@ -41,29 +37,25 @@ mul-counts : tie.Need-mul-counts Inv-loop μ-loop
 mul-counts c = search needs
 
 shared-slice-read-counts : tie.Need-shared-slice-read-counts Inv-loop μ-loop
-shared-slice-read-counts c = omega (arith, c .before .before .before .before .before .before .before .before .before .pre .1 .1 .1 .all, c .before .before .before .before .loop-test .taken)
+shared-slice-read-counts c = omega (arith, c .before .before .before .before .before .before .before .before .pre .1 .1 .1 .all, c .before .before .before .loop-test .taken)
 
 sub-counts : tie.Need-sub-counts Inv-loop μ-loop
-sub-counts c =
-    let a = c .before .before .before .before .before .before .before .before .before .args in
-    let ready = c .before .before .before .before .before .before .before .before .before .pre .0 (c .before .before .before .before .before .loop .f) (c .before .before .before .before .loop-test .taken) in
-    omega (arith, c .before .count-run .ensures, beside-shown (a .voxels .now) _ ready (c .before .before .offset .ensures), c .before .before .before .before .before .before .before .before .before .pre .1 .1 .1 .each (c .before .before .before .before .before .loop .f) (c .before .before .before .before .loop-test .taken))
+sub-counts c = omega (arith, c .before .count-run .ensures, c .before .before .before .before .before .before .before .before .pre .1 .1 .1 .each (c .before .before .before .before .loop .f) (c .before .before .before .loop-test .taken))
 
 mul-counts-2 : tie.Need-mul-counts-2 Inv-loop μ-loop
 mul-counts-2 c = search needs
 
 slice-read-counts : tie.Need-slice-read-counts Inv-loop μ-loop
-slice-read-counts c = omega (arith, c .before .before .before .before .before .before .loop .inv .all, c .before .before .before .before .before .loop-test .taken)
+slice-read-counts c = omega (arith, c .before .before .before .before .before .loop .inv .all, c .before .before .before .before .loop-test .taken)
 
 add-counts : tie.Need-add-counts Inv-loop μ-loop
 add-counts c =
-    let a = c .before .before .before .before .before .before .before .before .before .before .args in
-    let ready = c .before .before .before .before .before .before .before .before .before .before .pre .0 (c .before .before .before .before .before .before .loop .f) (c .before .before .before .before .before .loop-test .taken) in
-    let o : ℕ = offsetOf (a .t2) (c .before .before .before .before .before .before .loop .f) in
-    record { fits = omega (arith, c .before .before .count-run .ensures, beside-shown (a .voxels .now) o ready (c .before .before .before .offset .ensures), row-at-most (a .voxels .now) o (a .long) (a .start .0), growing-room (c .before .before .before .before .before .before .loop .inv) (c .before .before .before .before .before .loop-test .taken) (c .before .before .before .before .before .before .before .before .before .before .pre .1 .1 .0)) }
+    let a = c .before .before .before .before .before .before .before .before .before .args in
+    let o : ℕ = offsetOf (a .t2) (c .before .before .before .before .before .loop .f) in
+    record { fits = omega (arith, c .before .before .count-run .ensures, row-at-most (a .voxels .now) o (a .long) (a .start .0), growing-room (c .before .before .before .before .before .loop .inv) (c .before .before .before .before .loop-test .taken) (c .before .before .before .before .before .before .before .before .before .pre .1 .1 .0)) }
 
 slice-write-counts : tie.Need-slice-write-counts Inv-loop μ-loop
-slice-write-counts c = omega (arith, c .before .before .before .before .before .before .loop .inv .all, c .before .before .before .before .before .loop-test .taken)
+slice-write-counts c = omega (arith, c .before .before .before .before .before .loop .inv .all, c .before .before .before .before .loop-test .taken)
 
 add-f : tie.Need-add-f Inv-loop μ-loop
 add-f c = search needs
@@ -73,11 +65,10 @@ loop-less c = omega arith
 
 loop-again : tie.Need-loop-again Inv-loop μ-loop
 loop-again c =
-    let a = c .before .before .before .before .before .before .before .before .before .before .args in
-    let l = c .before .before .before .before .before .before .loop in
-    let taken = c .before .before .before .before .before .loop-test .taken in
-    let ready = c .before .before .before .before .before .before .before .before .before .before .pre .0 (l .f) taken in
-    growing-on (l .inv) taken (ap (λ (n : ℕ). getD (l .counts) (l .f) 0 + (n - getD (a .less .now) (l .f) 0)) (c .before .before .count-run .ensures ∙ beside-shown (a .voxels .now) _ ready (c .before .before .before .offset .ensures)))
+    let a = c .before .before .before .before .before .before .before .before .before .args in
+    let l = c .before .before .before .before .before .loop in
+    let taken = c .before .before .before .before .loop-test .taken in
+    growing-on (l .inv) taken (ap (λ (n : ℕ). getD (l .counts) (l .f) 0 + (n - getD (a .less .now) (l .f) 0)) (c .before .before .count-run .ensures))
 
 same-length : tie.Need-same-length Inv-loop μ-loop
 same-length c = c .before .loop .inv .all ∙ sym (c .before .before .before .before .before .pre .1 .1 .0 .all)
@@ -94,7 +85,6 @@ count-runs-spec =
     loop-holds
     mul-stride
     array-copy-out-stride
-    offset-requires
     count-run-requires
     cast-run
     mul-counts

@@ -8,7 +8,7 @@ use native.Mathlib.Omega.{arith}
 use lib.ListN.{getD}
 use Rattle.geometry.specs.Axes.{bit}
 use Rattle.simple.specs.Inner.{offsetOf, shownAt}
-use Rattle.simple.proofs.Counted.{seen, unseen}
+use Rattle.simple.proofs.Neighbours.{seen, unseen}
 use Rattle.simple.proofs.Sixes.{counted-none, Growing, growing-start, growing-room, growing-on, growing-still, growing-done}
 use Rattle.simple.proofs.count.count_voxel.Statement.{statement}
 use Rattle.simple.proofs.count.count_voxel.Tie as tie

@@ -1,6 +1,6 @@
 -- `shown` meets its contract: of two classes the higher shows to the lower.
 use borrow.Author.Needs.{needs}
-use Rattle.simple.proofs.Counted.{shows-lower, hides-higher}
+use Rattle.simple.proofs.Neighbours.{shows-lower, hides-higher}
 use Rattle.simple.proofs.count.shown.Statement.{statement}
 use Rattle.simple.proofs.count.shown.Tie as tie
 

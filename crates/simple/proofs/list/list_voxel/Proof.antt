@@ -9,7 +9,8 @@ use native.Mathlib.Omega.{arith}
 use Rattle.geometry.specs.Point.{Point, at}
 use Rattle.voxels.specs.Inner.{keptIf}
 use Rattle.simple.specs.Inner.{offsetOf, voxelQuad}
-use Rattle.simple.proofs.Counted.{seen, unseen}
+use Rattle.simple.proofs.Neighbours.{seen, unseen}
+use Rattle.simple.proofs.Sixes.{growing-room}
 use Rattle.simple.proofs.Cursors.{Faced, faces-start, faces-hidden, faces-shown, faces-done, faces-none}
 use Rattle.simple.proofs.list.list_voxel.Statement.{statement}
 use Rattle.simple.proofs.list.list_voxel.Tie as tie
@@ -70,7 +71,7 @@ push-requires : tie.Need-push-requires Inv-loop μ-loop
 push-requires c κs =
     let l = c .before .before .before .before .before .before .before .before .loop in
     let h = c .before .before .before .before .before .before .before .before .before .before .before .before .before .before .before .before .pre in
-    (rw (l .inv .long) (h .0), omega (arith, l .inv .moved .left (l .f) (omega arith), h .1 .1 .1 .each (l .f) (c .before .before .before .before .before .before .before .loop-test .taken)))
+    (rw (l .inv .long) (h .0), omega (arith, growing-room (l .inv .moved) (c .before .before .before .before .before .before .before .loop-test .taken) (h .1 .1 .1)))
 
 mul-cursors : tie.Need-mul-cursors Inv-loop μ-loop
 mul-cursors c = search needs
