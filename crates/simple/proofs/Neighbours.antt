@@ -1,5 +1,5 @@
 -- What a voxel shows to its neighbour, and where the neighbours of a row are.
-use mathlib.Core.Bool.{Bool, true, false}
+use mathlib.Core.Bool.{true, false}
 use mathlib.Core.List.{List}
 use mathlib.Core.Path.{_≡_, sym}
 use Prim.Native.Nat.{ℕ, _+_, _*_, _≤_, _<_}
@@ -38,11 +38,6 @@ module _ (vs : List ℕ) (offset i : ℕ) (sound : class (getD vs i 0) ≤ 2) {s
   unseen h = rw (← at-j, shows-below (getD vs i 0) (getD vs j 0) sound, ← is) (le-ltb (getD vs j 0) sight h)
 
 -- ---- a row
-
--- What is counted of a voxel is at most 1.
-pub bit-at-most : (b : Bool) → bit b ≤ 1
-bit-at-most true = omega arith
-bit-at-most false = omega arith
 
 -- The neighbours' indices do not wrap on the way,
 pub on-way : (o i k : ℕ) → offsetIndex i o ≤ 2 * mostVoxels → k ≤ longest → offsetIndex (i + k) o ≡ offsetIndex i o + k

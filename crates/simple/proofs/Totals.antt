@@ -8,11 +8,12 @@ use native.Mathlib.Omega.{arith}
 use lib.ListN.{length, getD, length-append}
 use Rattle.geometry.specs.Axes.{bit}
 use Rattle.geometry.specs.Point.{at}
+use Rattle.geometry.proofs.Tests.{bit-at-most}
 use Rattle.voxels.specs.Voxel.{shows}
 use Rattle.voxels.specs.Visible.{offsetIndex}
 use Rattle.voxels.specs.Inner.{keptIf, inStep}
 use Rattle.simple.specs.Inner.{showsAt, voxelQuad, rowQuads, sliceQuads, slicesQuads, total, shownAt, rowShown, sliceShown, slicesShown, RowReady}
-use Rattle.simple.proofs.Neighbours.{bit-at-most, beyond-at}
+use Rattle.simple.proofs.Neighbours.{beyond-at}
 
 -- ---- any sum
 
