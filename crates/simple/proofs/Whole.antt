@@ -5,10 +5,13 @@ use Prim.Native.Nat.{ℕ, zero, suc, _+_, _-_, _*_, _%_, _≤_, _<_}
 use native.Mathlib.Omega.{arith}
 use lib.ListN.{length, length-map, getD, replicate}
 use lib.Seq.{ext-getD}
+use lib.Dec.{eqb}
+use borrow.Author.Tests.{eqb-true, eqb-false}
 use Rattle.geometry.specs.declared.axis.Axis.the-variants.{Y, Z}
 use Rattle.geometry.specs.declared.face.OrientedBlockFace.{OrientedBlockFace}
 use Rattle.geometry.specs.Point.{Point}
 use Rattle.geometry.specs.Axes.{nAxis}
+use Rattle.geometry.proofs.Refusals.{split}
 use Rattle.voxels.specs.declared.extent.Extent.{Extent}
 use Rattle.voxels.specs.declared.index.Stride.{Stride}
 use Rattle.voxels.specs.Shape.{index, stride, field}
@@ -22,13 +25,26 @@ use Rattle.simple.proofs.Faces.{FaceReady, face-ready}
 use Rattle.simple.proofs.Soundness.{slices-sound}
 use Rattle.simple.proofs.Totals.{slices-length, slices-at-most}
 use Rattle.simple.proofs.Sixes.{counted-zeros}
-use Rattle.simple.proofs.Runs.{joined-apart, listed-joined}
+use Rattle.simple.proofs.Runs.{runs-none, joined-apart, listed-joined}
 
 -- The lengths of the faces' lists, face by face.
 lengths-at : (g : OrientedBlockFace → List Point) (faces : List OrientedBlockFace) (f : ℕ) → f < length faces → getD (map length (map g faces)) f 0 ≡ length (g (getD faces f noFace))
 lengths-at g [] f h = let none : ⊥ = omega arith in absurd none
 lengths-at g (x ∷ faces) zero h = refl
 lengths-at g (x ∷ faces) (suc f) h = lengths-at g faces f (omega arith)
+
+no-length : (l : List Point) → length l ≡ 0 → l ≡ []
+no-length [] e = refl
+no-length (p ∷ l) e = let none : ⊥ = omega arith in absurd none
+
+-- No count is above where the runs after it begin.
+start-above : (counts : List ℕ) (n f : ℕ) → f < n → getD counts f 0 ≤ startOf counts n
+unfolding startOf
+start-above counts zero f h = let none : ⊥ = omega arith in absurd none
+start-above counts (suc n) f h =
+    split (eqb f n)
+    (λ t. rw (eqb-true f n t) (omega arith))
+    (λ d. let other = eqb-false f n d in omega (arith, start-above counts n f (omega arith)))
 
 -- What is meshed: the interior of an accepted entry without a bad voxel, by six faces and their strides, from the first index on by two strides.
 pub record Meshing (lent : ℕ) (shape : Point) (inner : Extent) (vs : List ℕ) (faces : List OrientedBlockFace) (strides : List Stride) (i d e : ℕ) : Type 0 where
@@ -135,3 +151,12 @@ module _ {lent : ℕ} {shape : Point} {inner : Extent} {vs : List ℕ} {faces : 
             ∙ listed-joined (unitGroup inner (field shape vs)) faces noFace (startOf counts) refl start-after cursors quadsOf (m .six) (starts .each) (λ f h. sym (group-at f h)) listed;
         each = counts-are;
       }
+
+      -- Where there are none at all nothing need be listed.
+      pub none-made : {was : List ℕ} → end ≡ 0 → MadeGroups unitNumbers numbersOf (unitGroups inner (field shape vs) faces) was was end counts
+      none-made none =
+          let no-quad : (f : ℕ) → f < 6 → length (quadsOf f) ≡ 0 = λ f h. omega (arith, starts .last, start-above counts 6 f h, count-at f h, shown f) in
+          groups-made {now = cursors} (record {
+            is = sym (runs-none 6 _ _ quadsOf (λ f h. no-length (quadsOf f) (no-quad f h)));
+            moved = record { each = λ f h. omega (arith, no-quad f h); all = starts .all };
+          })

@@ -82,7 +82,8 @@ struct Meshed {
     counts: [u64; 6],
 }
 
-// Lists the unit quads of all faces: counts them, and then writes each where its group has come to.
+// Lists the unit quads of all faces: counts them, and then, if there are any, writes each where its
+// group has come to.
 fn mesh_faces(
     voxels: &[u16],
     out: &mut [u32],
@@ -119,6 +120,9 @@ fn mesh_faces(
     );
     let mut cursors = [0usize; 6];
     let listed = run_starts(&mut cursors, &counts);
+    if listed == 0 {
+        return Meshed { listed, counts };
+    }
     list::list_slices(
         voxels,
         out,

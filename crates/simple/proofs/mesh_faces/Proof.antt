@@ -7,7 +7,7 @@ use Rattle.geometry.specs.Point.{along}
 use Rattle.geometry.specs.declared.axis.Axis.the-variants.{X, Y, Z}
 use Rattle.voxels.proofs.Entered.{below, bound-small}
 use Rattle.simple.proofs.Sixes.{zeros-room}
-use Rattle.simple.proofs.Whole.{Meshing, all-ready, all-sound, few, counts-small, cursors-room, runs-apart, groups-made}
+use Rattle.simple.proofs.Whole.{Meshing, all-ready, all-sound, few, counts-small, cursors-room, runs-apart, groups-made, none-made}
 use Rattle.simple.proofs.mesh_faces.Statement.{statement}
 use Rattle.simple.proofs.mesh_faces.Tie as tie
 
@@ -66,18 +66,21 @@ slice-aggregate-run-starts-2 c = search needs
 run-starts-requires : tie.Need-run-starts-requires
 run-starts-requires c κs = (refl, counts-small (meshing (c .before .before .before .before .before .before .before .before .before .before .before)) (c .before .before .before .count-slices .ensures))
 
+returns : tie.Need-returns
+returns c = none-made (meshing (c .before .before .before .before .before .before .before .before .before .before .before .before .before .before)) (c .before .before .before .before .before .before .count-slices .ensures) (c .before .before .run-starts .ensures) (c .if1 .taken)
+
 slice-aggregate-list-slices : tie.Need-slice-aggregate-list-slices
 slice-aggregate-list-slices c = search needs
 
 list-slices-requires : tie.Need-list-slices-requires
 unfolding along
 list-slices-requires c κs =
-    let m = meshing (c .before .before .before .before .before .before .before .before .before .before .before .before .before .before .before) in
-    let counted = c .before .before .before .before .before .before .before .count-slices .ensures in
-    let starts = c .before .before .before .run-starts .ensures in
+    let m = meshing (c .before .before .before .before .before .before .before .before .before .before .before .before .before .before .before .before) in
+    let counted = c .before .before .before .before .before .before .before .before .count-slices .ensures in
+    let starts = c .before .before .before .before .run-starts .ensures in
     let lo = below _ _ _ (m .entered) in
     let hi = bound-small _ _ _ (m .entered) in (
-      c .before .before .before .before .before .before .before .before .before .before .before .before .before .before .before .before .before .before .before .before .before .before .before .pre .0,
+      c .before .before .before .before .before .before .before .before .before .before .before .before .before .before .before .before .before .before .before .before .before .before .before .before .pre .0,
       (
         all-ready m,
         (all-sound m, ((cursors-room m counted starts, omega (arith, lo X, hi X), omega (arith, lo Y, hi Y), omega (arith, lo Z, hi Z)), runs-apart m counted starts)),
@@ -87,8 +90,8 @@ list-slices-requires c κs =
 same-length : tie.Need-same-length
 same-length c = search needs
 
-returns : tie.Need-returns
-returns c = groups-made (meshing (c .before .before .before .before .before .before .before .before .before .before .before .before .before .before .before .before .before .before .before)) (c .before .before .before .before .before .before .before .before .before .before .before .count-slices .ensures) (c .before .before .before .before .before .before .before .run-starts .ensures) (c .before .before .before .list-slices .ensures)
+returns-2 : tie.Need-returns-2
+returns-2 c = groups-made (meshing (c .before .before .before .before .before .before .before .before .before .before .before .before .before .before .before .before .before .before .before .before)) (c .before .before .before .before .before .before .before .before .before .before .before .before .count-slices .ensures) (c .before .before .before .before .before .before .before .before .run-starts .ensures) (c .before .before .before .list-slices .ensures)
 
 pub mesh-faces-spec : {M : Type 1} → statement M
 mesh-faces-spec =
@@ -106,7 +109,8 @@ mesh-faces-spec =
     slice-aggregate-run-starts
     slice-aggregate-run-starts-2
     run-starts-requires
+    returns
     slice-aggregate-list-slices
     list-slices-requires
     same-length
-    returns)
+    returns-2)
