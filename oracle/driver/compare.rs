@@ -1,6 +1,7 @@
 //! Asks all sides the same call and counts where they differ.
 
 use crate::call::{Draw, Drawn, Mesh, Meshed};
+use crate::crash::named;
 use crate::rust_side;
 use crate::sides::{product, READING};
 use std::collections::BTreeMap;
@@ -54,7 +55,8 @@ impl Tally {
     /// is refused for want of room alone. Answers what the reading leaves.
     pub fn mesh(&mut self, call: &Mesh) -> Meshed {
         self.calls += 1;
-        let reading = READING.mesh(call);
+        let number = self.calls;
+        let reading = named(number, "the second reading", call, || READING.mesh(call));
         let refusal = reading.answer[0];
         let kind = if call.greedy { "greedy_quads" } else { "visible_block_faces" };
         *self.by_refusal.entry((kind, refusal)).or_default() += 1;
@@ -65,13 +67,13 @@ impl Tally {
             }
         }
 
-        let product = product().map(|p| p.mesh(call));
+        let product = product().map(|p| named(number, "the product", call, || p.mesh(call)));
         if let Some(left) = product.as_ref().filter(|left| **left != reading) {
             self.differs("the product and the second reading", call, left, &reading);
         }
         if refusal == 0 || refusal == 9 {
             self.with_rust += 1;
-            let rust = by_rust(call);
+            let rust = named(number, "the Rust's text", call, || by_rust(call));
             for (side, left) in [("the second reading", Some(&reading)), ("the product", product.as_ref())] {
                 if let Some(left) = left.filter(|left| !rust.agrees(left)) {
                     let what = format!("the Rust's text and {}", side);
@@ -85,16 +87,17 @@ impl Tally {
     /// A call of geometry: the product against the reading, and the Rust against both where the call is accepted.
     pub fn draw(&mut self, call: &Draw) -> Drawn {
         self.calls += 1;
-        let reading = READING.draw(call);
+        let number = self.calls;
+        let reading = named(number, "the second reading", call, || READING.draw(call));
         *self.by_refusal.entry((kind(call), reading.refusal as u64)).or_default() += 1;
 
-        let product = product().filter(|_| call.in_c_interface()).map(|p| p.draw(call));
+        let product = product().filter(|_| call.in_c_interface()).map(|p| named(number, "the product", call, || p.draw(call)));
         if let Some(left) = product.filter(|left| *left != reading) {
             self.differs("the product and the second reading", call, &left, &reading);
         }
         if reading.refusal == 0 {
             self.with_rust += 1;
-            let rust = rust_side::draw(call);
+            let rust = named(number, "the Rust's text", call, || rust_side::draw(call));
             for (side, left) in [("the second reading", Some(reading)), ("the product", product)] {
                 if let Some(left) = left.filter(|left| left.words[..call.words()] != rust[..]) {
                     let what = format!("the Rust's text and {}", side);

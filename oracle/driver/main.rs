@@ -3,6 +3,7 @@
 mod call;
 mod chosen;
 mod compare;
+mod crash;
 mod draws;
 mod examples;
 mod exhaustive;
@@ -63,6 +64,7 @@ fn main() {
         eprintln!("{}", e);
         std::process::exit(2)
     });
+    crash::watch();
     let mut tally = Tally::default();
     if wish.replay {
         replay::write(&mut tally, wish.seed, wish.rattle);
@@ -72,6 +74,14 @@ fn main() {
     let sides = if sides::product().is_some() { "product, Rust and reading" } else { "Rust and reading, WITHOUT the product" };
     println!("seed {}, random calls of each kind {}, sides: {}", wish.seed, wish.calls, sides);
     part(&mut tally, "document 01's examples", &mut |t| examples::run(t));
+    part(&mut tally, "the calls of the replay list", &mut |t| {
+        for call in chosen::meshes(wish.seed) {
+            t.mesh(&call);
+        }
+        for call in chosen::draws() {
+            t.draw(&call);
+        }
+    });
     part(&mut tally, "every 3x3x3 of three classes", &mut |t| exhaustive::threes(t));
     part(&mut tally, "geometry at its limits", &mut |t| draws::limits(t));
     if !wish.brief {
