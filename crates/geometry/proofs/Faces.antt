@@ -1,5 +1,5 @@
 -- Laws of faces: the normal on each axis, and when a texture's u is flipped.
-use mathlib.Core.Bool.{true, false, not}
+use mathlib.Core.Bool.{true, false, not, or-false}
 use mathlib.Core.Path.{_≡_, refl, _∙_, ap}
 use lib.IntN
 use lib.IntN.{ℤ, pos, _*ℤ_, *ℤ-one, *ℤ-zero}
@@ -13,7 +13,6 @@ use Rattle.geometry.specs.Checks.{properSign}
 use Rattle.geometry.specs.Face.{normal}
 use Rattle.geometry.specs.Textures.{flipsU}
 use Rattle.geometry.proofs.Signs.{proper-elim}
-use Rattle.geometry.proofs.Tests.{or-false}
 
 -- A number on one axis, and zero on the others.
 abbrev pub onAxis : ℤ → Axis → IVec3

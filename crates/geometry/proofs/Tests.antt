@@ -1,5 +1,5 @@
--- Laws of tests: of two that are joined, and of one as a number.
-use mathlib.Core.Bool.{Bool, true, false, _&&_, _||_}
+-- Laws of tests: of two that pass together, and of one as a number.
+use mathlib.Core.Bool.{Bool, true, false, _&&_}
 use mathlib.Core.Path.{_≡_, refl}
 use Prim.Native.Nat.{_≤_}
 use native.Mathlib.Omega.{arith}
@@ -9,11 +9,6 @@ use Rattle.geometry.specs.Axes.{bit}
 pub both-true : (a b : Bool) → a && b ≡ true → (a ≡ true) × (b ≡ true)
 both-true true b h = (refl, h)
 both-true false b h = (cc, cc)
-
--- A test, or one that fails, is that test.
-pub or-false : (a : Bool) → a || false ≡ a
-or-false true = refl
-or-false false = refl
 
 -- A test counts at most once.
 pub bit-at-most : (b : Bool) → bit b ≤ 1
