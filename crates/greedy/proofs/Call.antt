@@ -7,7 +7,7 @@ use native.Mathlib.Nat.{suc-mul, div-mul-le-self}
 use native.Mathlib.Omega.{arith}
 use lib.Dec.{eqb, ltb}
 use lib.ListN.{length, getD, take, drop, replicate, length-append, length-drop, take-append-drop}
-use lib.Seq.{drop-at}
+use lib.Seq.{length-take-le, take-all, drop-at}
 use borrow.Author.Tests.{ltb-true, ltb-false}
 use Rattle.geometry.specs.declared.axis.Axis.{Axis}
 use Rattle.geometry.specs.declared.quad.UnorientedQuad.{UnorientedQuad}
@@ -25,7 +25,7 @@ use Rattle.voxels.specs.Checks.{badFacesFrom, badFaces, fewVisited, badVoxelAt,
 use Rattle.voxels.specs.Listing.{joined, overwritten, capacity, lay, atExit}
 use Rattle.voxels.proofs.Scan.{each-append, each-up}
 use Rattle.voxels.proofs.Pushed.{lay-many, lay-fits}
-use Rattle.voxels.proofs.Groups.{take-whole, length-take-at}
+use Rattle.voxels.proofs.Lowest.{refused-number, not-both}
 use Rattle.greedy.specs.declared.GreedyAnswer.{GreedyAnswer}
 use Rattle.greedy.specs.Group.{contains}
 use Rattle.greedy.specs.Greedy.{Listed, listed, listedGroup, quadNumbers, numbersOf, greedyGroup, greedyGroups, greedyTests, greedyAnswer, GreedyOutcome, outcome, greedyQuads}
@@ -92,22 +92,14 @@ entryNumber n = not (eqb n 0) && not (eqb n 9)
 abbrev Entry : Check → Type 0
 Entry c = entryNumber (c .number) ≡ true
 
--- A refusal's number, and 1 for a refusal.
-abbrev number-of : Answer (Unit {0}) → ℕ
-number-of (accepted u) = 0
-number-of (refused n p) = n
-
-abbrev is-refused : Answer (Unit {0}) → ℕ
-is-refused (accepted u) = 0
-is-refused (refused n p) = 1
-
-refused-number : (cs : List Check) → Each Entry cs → {n p : ℕ} → checked cs ≡ refused n p → entryNumber n ≡ true
+-- Such checks refuse with such a number.
+refused-entry : (cs : List Check) → Each Entry cs → {n p : ℕ} → checked cs ≡ refused n p → entryNumber n ≡ true
 unfolding Each answer
-refused-number [] h e = let none : _≡_ {A = ℕ} 0 1 = ap is-refused e in absurd (omega arith)
-refused-number (c ∷ cs) h {n} {p} e =
+refused-entry [] h e = absurd (not-both e)
+refused-entry (c ∷ cs) h {n} {p} e =
     split (c .applies)
-    (λ t. let is : c .number ≡ n = ap number-of (sym (applies c cs tt t) ∙ e) in rw (sym is) (h .0))
-    (λ f. refused-number cs (h .1) (sym (passes c cs tt f) ∙ e))
+    (λ t. let is : c .number ≡ n = refused-number (sym (applies c cs tt t) ∙ e) in rw (sym is) (h .0))
+    (λ f. refused-entry cs (h .1) (sym (passes c cs tt f) ∙ e))
 
 each-map : {A B : Type 0} (P : B → Type 0) (f : A → B) → ((a : A) → P (f a)) → (l : List A) → Each P (map f l)
 unfolding Each
@@ -218,7 +210,7 @@ module _ (voxels : List ℕ) (shape min max : Point) (faces : List OrientedBlock
       by : (x : Answer (Unit {0})) → x ≡ checked checks → checked checks ≡ accepted tt
       by (accepted u) e = sym e
       by (refused n p) e =
-          let k = refused-number checks (checks-numbered voxels shape min max faces (length bytes)) (sym e) in
+          let k = refused-entry checks (checks-numbered voxels shape min max faces (length bytes)) (sym e) in
           let number : r .refusal ≡ n = rw (sym e) at (ap (λ (a : GreedyAnswer). a .refusal) answer-is) in
           let clash : true ≡ false = sym k ∙ ap entryNumber (sym number ∙ is) ∙ other in
           cc
@@ -244,7 +236,7 @@ module _ (voxels : List ℕ) (shape min max : Point) (faces : List OrientedBlock
       let is : r ≡ greedyAnswer (greedyTests inner v faces) (accepted (map length groups)) = made entered ∙ ap (greedyAnswer (greedyTests inner v faces)) (lay-fits quadNumbers numbersOf groups was fits) in
       let cut : groupsIn (r .counts) out ≡ ruleGroups inner v faces =
       ap (λ (a : GreedyAnswer). groupsIn (a .counts) out) is
-      ∙ rw (left entered, take-whole (joined groups) (capacity quadNumbers (length was)) fits) (groups-in groups (drop (length (all (joined groups))) was))
+      ∙ rw (left entered, take-all (capacity quadNumbers (length was)) (joined groups) fits) (groups-in groups (drop (length (all (joined groups))) was))
       ∙ groups-back inner v faces in
       record {
         groups = rw cut (matched-each (Meshed v inner) _ faces (each-up (GroupDrawn inner v) (λ (f : OrientedBlockFace). Meshed v inner f (greedyGroup inner v f .quads)) (λ f d. record { cover = greedy-cover f v inner; areas = greedy-areas f v inner; drawn = d }) faces (greedy-drawn voxels shape min max faces (length bytes) entered)));
@@ -262,7 +254,7 @@ module _ (voxels : List ℕ) (shape min max : Point) (faces : List OrientedBlock
       let many : room < length (joined groups) = ltb-true _ _ t in
       let place : r .place ≡ room = ap (λ (a : GreedyAnswer). a .place) (made entered ∙ ap (greedyAnswer (greedyTests inner v faces)) (lay-many quadNumbers numbersOf groups was many)) in
       let written : List ℕ = all (take room (joined groups)) in
-      let short : length (take room (joined groups)) ≡ room = length-take-at (joined groups) room (omega arith) in
+      let short : length (take room (joined groups)) ≡ room = length-take-le room (joined groups) (omega arith) in
       let fits : length written ≤ length was = omega (arith, all-length (take room (joined groups)), ap (λ (k : ℕ). k * quadNumbers) short, room-fits was) in
       let first : quadsIn (r .place) out ≡ take (r .place) (joined (ruleGroups inner v faces)) =
       rw (place, left entered)

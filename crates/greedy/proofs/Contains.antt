@@ -10,11 +10,12 @@ use Rattle.geometry.specs.declared.quad.UnorientedQuad.{UnorientedQuad}
 use Rattle.geometry.specs.declared.face.OrientedBlockFace.{OrientedBlockFace}
 use Rattle.geometry.specs.Point.{Point, along, moved}
 use Rattle.geometry.specs.Axes.{nAxis, uAxis, vAxis, bit}
+use Rattle.geometry.proofs.Tests.{both-true}
 use Rattle.geometry.proofs.Frame.{moved-on, moved-off, one-point, frame}
 use Rattle.voxels.specs.declared.extent.Extent.{Extent}
 use Rattle.voxels.specs.Extent.{Inside, scan, inside}
 use Rattle.voxels.proofs.Scan.{each-up, scan-inside}
-use Rattle.voxels.proofs.Times.{both-true, inside-true, inside-yes}
+use Rattle.voxels.proofs.Times.{inside-true, inside-yes}
 use Rattle.greedy.specs.Group.{among, contains}
 use Rattle.greedy.specs.Demand.{area, total, points, voxelsOf}
 use Rattle.greedy.proofs.Spread.{spread, spread-n, spread-u, spread-v}

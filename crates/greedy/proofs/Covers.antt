@@ -11,12 +11,13 @@ use Rattle.geometry.specs.declared.face.OrientedBlockFace.{OrientedBlockFace}
 use Rattle.geometry.specs.Point.{Point}
 use Rattle.geometry.specs.Axes.{nAxis, uAxis, vAxis, bit}
 use Rattle.geometry.proofs.Refusals.{split}
+use Rattle.geometry.proofs.Tests.{both-true}
 use Rattle.voxels.specs.declared.extent.Extent.{Extent}
 use Rattle.voxels.specs.Shape.{Field}
 use Rattle.voxels.specs.Extent.{Inside, Each, inside, howMany}
 use Rattle.voxels.specs.Visible.{visible}
 use Rattle.voxels.proofs.Scan.{each-append}
-use Rattle.voxels.proofs.Times.{both-true, inside-true}
+use Rattle.voxels.proofs.Times.{inside-true}
 use Rattle.greedy.specs.Group.{sweep, passes, Choice, roomU, roomV, State, scanned, swept}
 use Rattle.greedy.specs.Demand.{covers, Cover, InSlice, Consistent, groupFrom, quadOf, Admissible, admit, Sound}
 use Rattle.greedy.proofs.Sweep.{sweep-inside, inside-sweep}

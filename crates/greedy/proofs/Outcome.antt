@@ -6,6 +6,7 @@ use native.Mathlib.Nat.{add-zero, zero-add, add-assoc}
 use native.Mathlib.Omega.{arith}
 use lib.IntN.{pos}
 use lib.ListN.{length, getD, take, drop, replicate}
+use lib.Seq.{take-all}
 use borrow.Author.Tests.{ltb-false}
 use Rattle.geometry.specs.declared.axis.AxisPermutation.the-variants.{Xyz}
 use Rattle.geometry.specs.declared.face.OrientedBlockFace.{OrientedBlockFace}
@@ -15,14 +16,14 @@ use Rattle.geometry.proofs.Refusals.{accepts-value, accepts-checked, first-pass
 use Rattle.voxels.specs.declared.extent.Extent.{Extent}
 use Rattle.voxels.specs.declared.bounds.Entry.{Entry}
 use Rattle.voxels.specs.Shape.{size, Field, field}
-use Rattle.voxels.specs.Extent.{interior}
 use Rattle.voxels.specs.Checks.{boundsChecks, badFaces, fewVisited, badVoxels, greedyChecks}
 use Rattle.voxels.specs.Listing.{overwritten, capacity, lay}
 use Rattle.voxels.specs.Answers.{entry}
 use Rattle.voxels.specs.Inner.{MadeGroups}
 use Rattle.voxels.proofs.Orders.{both-pass, answer-refused}
 use Rattle.voxels.proofs.Held.{bounds-held}
-use Rattle.voxels.proofs.Groups.{take-next, take-whole, laid-many, laid-counts, laid-out}
+use Rattle.voxels.proofs.Entered.{interior-is}
+use Rattle.voxels.proofs.Groups.{take-next, laid-many, laid-counts, laid-out}
 use Rattle.greedy.specs.declared.GreedyAnswer.{GreedyAnswer}
 use Rattle.greedy.specs.Greedy.{Listed, quadNumbers, numbersOf, greedyGroup, greedyGroups, greedyTests, greedyAnswer, GreedyOutcome, outcome, greedyQuads}
 use Rattle.greedy.specs.Inner.{Accepted, MadeFaces, laidOutcome}
@@ -51,7 +52,7 @@ module _ (inner : Extent) (v : Field) where
 
     -- and after all of them the sum is whole.
     pub tests-done : (k : ℕ) {t : ℕ} → length fs ≤ k → t ≡ greedyTests inner v (take k fs) → t ≡ greedyTests inner v fs
-    tests-done k h e = rw (take-whole fs k h) at e
+    tests-done k h e = rw (take-all k fs h) at e
 
 -- ---- the answer
 
@@ -89,16 +90,13 @@ module _ (voxels : List ℕ) (shape min max : Point) (faces : List OrientedBlock
     pub size-is : e .size ≡ size shape
     size-is = ap (λ (e : Entry). e .size) (sym (accepts-value checks (entry shape min max) enters))
 
-    interior-is : e .interior ≡ interior min max
-    interior-is = ap (λ (e : Entry). e .interior) (sym (accepts-value checks (entry shape min max) enters))
-
     pub is-accepted : Accepted (length voxels) (length bytes) shape (e .interior)
     is-accepted =
         let bounds = boundsChecks (length voxels) shape min max in
         let all = both-pass (bounds ++ badFaces faces ++ fewVisited (length bytes) shape) (badVoxels voxels shape min max) (accepts-checked checks (entry shape min max) enters) .0 in
         let parts = both-pass (bounds ++ badFaces faces) (fewVisited (length bytes) shape) all in
         record {
-          entered = record { min = min; max = max; is = interior-is; held = bounds-held shape (length voxels) min max (both-pass bounds (badFaces faces) (parts .0) .0) };
+          entered = record { min = min; max = max; is = interior-is checks shape min max enters; held = bounds-held shape (length voxels) min max (both-pass bounds (badFaces faces) (parts .0) .0) };
           marked = ltb-false (length bytes) (size shape) (first-passes _ _ _ (parts .1));
         }
 
@@ -107,4 +105,4 @@ module _ (voxels : List ℕ) (shape min max : Point) (faces : List OrientedBlock
         → o ≡ laidOutcome (greedyTests (e .interior) (field shape voxels) faces) (overwritten (replicate n 0) bytes) (lay quadNumbers numbersOf (greedyGroups (e .interior) (field shape voxels) faces) out)
         → o ≡ greedyQuads voxels shape min max faces bytes out
     unfolding greedyQuads
-    entered-outcome n is out h = h ∙ rw (accepts-checked checks (entry shape min max) enters, interior-is, is, size-is)
+    entered-outcome n is out h = h ∙ rw (accepts-checked checks (entry shape min max) enters, interior-is checks shape min max enters, is, size-is)

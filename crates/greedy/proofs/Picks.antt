@@ -14,10 +14,10 @@ use Rattle.geometry.specs.declared.face.OrientedBlockFace.{OrientedBlockFace}
 use Rattle.geometry.specs.Point.{Point, along, moved}
 use Rattle.geometry.specs.Axes.{uAxis, vAxis}
 use Rattle.geometry.proofs.Refusals.{split}
+use Rattle.geometry.proofs.Tests.{both-true}
 use Rattle.geometry.proofs.Frame.{moved-none, moved-moved}
 use Rattle.voxels.specs.Voxel.{mergeValue, uniform}
 use Rattle.voxels.specs.Shape.{Field}
-use Rattle.voxels.proofs.Times.{both-true}
 use Rattle.greedy.specs.Group.{passes, contains}
 use Rattle.greedy.specs.Merger.{Walked, follows, rowWalk, rowsWalk, voxelMerger}
 use Rattle.greedy.specs.Demand.{Uniform, quadOf, area, Admissible, Sound}

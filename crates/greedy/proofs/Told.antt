@@ -1,5 +1,5 @@
 -- What the bytes tell: the byte at a point's index is 0 exactly where no quad of the group contains the point. Laying a rectangle keeps it so, and then the walk by indices is the walk in coordinates.
-use mathlib.Core.Bool.{Bool, true, false, not, _&&_, _||_}
+use mathlib.Core.Bool.{true, false, not, _&&_, _||_, or-true, or-false}
 use mathlib.Core.List.{List, [], _∷_, _++_}
 use mathlib.Core.Path.{_≡_, refl, sym, _∙_, ap}
 use Prim.Native.Nat.{ℕ, zero, suc, _+_, _-_, _*_, _≤_, _<_}
@@ -30,14 +30,6 @@ use Rattle.greedy.proofs.Walks.{walk-passes, walk-fails, rows-whole, ro
 use Rattle.greedy.proofs.Spread.{spread, spread-index, spread-inside}
 use Rattle.greedy.proofs.Contains.{contains-true, spread-contained, reached}
 use Rattle.greedy.proofs.Marks.{quad-hits, quad-misses}
-
-or-true : (a : Bool) → a || true ≡ true
-or-true true = refl
-or-true false = refl
-
-or-false : (a : Bool) → a || false ≡ a
-or-false true = refl
-or-false false = refl
 
 -- With one quad more, a point is visited where it was or where that quad contains it.
 pub visited-more : (f : OrientedBlockFace) (qs : List UnorientedQuad) (q : UnorientedQuad) (p : Point) → visited f (qs ++ (q ∷ [])) p ≡ visited f qs p || contains f q p

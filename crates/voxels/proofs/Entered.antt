@@ -1,19 +1,28 @@
 -- An accepted entry's interior: its minimum is not past its bound, both lie in the shape, and the code's numbers, taken modulo 2 to the 32nd, are its index and the strides.
 use mathlib.Core.Bool.{Bool}
-use mathlib.Core.Path.{_≡_, _∙_}
+use mathlib.Core.List.{List}
+use mathlib.Core.Path.{_≡_, sym, _∙_, ap}
 use Prim.Native.Nat.{ℕ, _%_, _≤_, _<_}
 use native.Mathlib.Omega.{arith}
 use Rattle.geometry.specs.declared.axis.Axis.{Axis}
 use Rattle.geometry.specs.declared.axis.Axis.the-variants.{X, Y, Z}
 use Rattle.geometry.specs.Point.{Point, along}
+use Rattle.geometry.specs.Refusal.{accepted, Check, answer}
+use Rattle.geometry.proofs.Refusals.{accepts-value}
+use Rattle.voxels.specs.declared.bounds.Entry.{Entry}
 use Rattle.voxels.specs.declared.extent.Extent.{Extent}
 use Rattle.voxels.specs.Shape.{size, index, stride, InShape}
-use Rattle.voxels.specs.Extent.{Inside}
+use Rattle.voxels.specs.Extent.{Inside, interior}
 use Rattle.voxels.specs.Visible.{stepped, modulus, visibilityOffset, offsetIndex}
+use Rattle.voxels.specs.Answers.{entry}
 use Rattle.voxels.specs.Inner.{mostVoxels, Entered}
 use Rattle.voxels.proofs.Places.{index-below}
 use Rattle.voxels.proofs.Held.{max-small, stride-is, index-fits}
 use Rattle.voxels.proofs.Steps.{neighbour-in-box, box-in-shape, offset-leads}
+
+-- Whatever the checks, the interior that an accepted entry gives is that of the box.
+pub interior-is : (checks : List Check) (shape min max : Point) {e : Entry} → answer checks (entry shape min max) ≡ accepted e → e .interior ≡ interior min max
+interior-is checks shape min max enters = ap (λ (e : Entry). e .interior) (sym (accepts-value checks (entry shape min max) enters))
 
 module _ (lent : ℕ) (shape : Point) (inner : Extent) (entered : Entered lent shape inner) where
   pub below : (a : Axis) → along a (inner .minimum) ≤ along a (inner .bound)

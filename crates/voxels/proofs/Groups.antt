@@ -5,6 +5,7 @@ use Prim.Native.Nat.{ℕ, zero, suc, _+_, _-_, _≤_, _<_}
 use native.Mathlib.Nat.{add-zero, suc-add, not-suc-le-zero}
 use native.Mathlib.Omega.{arith}
 use lib.ListN.{length, getD, take, set, replicate}
+use lib.Seq.{length-take-le, take-all}
 use Rattle.geometry.specs.Refusal.{accepted, refused}
 use Rattle.voxels.specs.Listing.{joined, capacity, lay}
 use Rattle.voxels.specs.Inner.{Output, output, pushed, pushedAll, MadeGroups}
@@ -16,17 +17,6 @@ pub take-next : {A : Type 0} (l : List A) (k : ℕ) (d : A) → k < length l →
 take-next [] k d h = absurd (not-suc-le-zero h)
 take-next (a ∷ l) zero d h = refl
 take-next (a ∷ l) (suc k) d h = rw (suc-add k 1) (ap (λ (r : List _). a ∷ r) (take-next l k d (omega arith)))
-
-pub take-whole : {A : Type 0} (l : List A) (k : ℕ) → length l ≤ k → take k l ≡ l
-take-whole [] zero h = refl
-take-whole [] (suc k) h = refl
-take-whole (a ∷ l) zero h = absurd (not-suc-le-zero h)
-take-whole (a ∷ l) (suc k) h = ap (λ (r : List _). a ∷ r) (take-whole l k (omega arith))
-
-pub length-take-at : {A : Type 0} (l : List A) (k : ℕ) → k ≤ length l → length (take k l) ≡ k
-length-take-at l zero h = refl
-length-take-at [] (suc k) h = absurd (not-suc-le-zero h)
-length-take-at (a ∷ l) (suc k) h = ap suc (length-take-at l k (omega arith))
 
 pub map-one-more : {A B : Type 0} (f : A → B) (l : List A) (a : A) → map f (l ++ (a ∷ [])) ≡ map f l ++ (f a ∷ [])
 map-one-more f [] a = refl
@@ -67,7 +57,7 @@ module _ {F A : Type 0} (numbers : ℕ) (numbersOf : A → List ℕ) (group : F 
   counts-next k n counts c all h before is =
       let lens : List ℕ = map length (map group (take k fs)) in
       let rest : List ℕ = replicate (n - (k + 1)) 0 in
-      let at-k : length lens ≡ k = length-map-at length (map group (take k fs)) ∙ length-map-at group (take k fs) ∙ length-take-at fs k (omega arith) in
+      let at-k : length lens ≡ k = length-map-at length (map group (take k fs)) ∙ length-map-at group (take k fs) ∙ length-take-le k fs (omega arith) in
       let stored : set counts k c ≡ lens ++ (c ∷ rest) = rw (before, more k n h) (rw at-k at (set-after lens 0 c rest)) in
       let made : map length (map group (take (k + 1) fs)) ++ rest ≡ lens ++ (c ∷ rest) =
       rw (take-next fs k d (omega arith), map-one-more group (take k fs) (getD fs k d), map-one-more length (map group (take k fs)) (group (getD fs k d)), is)
@@ -77,10 +67,10 @@ module _ {F A : Type 0} (numbers : ℕ) (numbersOf : A → List ℕ) (group : F 
 -- After all of them.
 module _ {F A : Type 0} (group : F → List A) (fs : List F) where
   pub groups-done : (k : ℕ) → length fs ≤ k → map group (take k fs) ≡ map group fs
-  groups-done k h = ap (map group) (take-whole fs k h)
+  groups-done k h = ap (map group) (take-all k fs h)
 
   pub counts-done : (k n : ℕ) (counts : List ℕ) → length fs ≡ n → n ≤ k → counts ≡ map length (map group (take k fs)) ++ replicate (n - k) 0 → counts ≡ map length (map group fs)
-  counts-done k n counts all h e = rw (take-whole fs k (omega arith), done k n h, append-nil) at e
+  counts-done k n counts all h e = rw (take-all k fs (omega arith), done k n h, append-nil) at e
 
 -- What was listed is what `lay` says: more than fit are refused, with the first written, and what fits is counted.
 module _ {A : Type 0} (numbers : ℕ) (numbersOf : A → List ℕ) (some : 0 < numbers) (sized : (a : A) → length (numbersOf a) ≡ numbers)

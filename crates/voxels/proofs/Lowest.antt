@@ -32,9 +32,11 @@ abbrev place-in : Answer (Unit {0}) → ℕ
 place-in (accepted u) = 0
 place-in (refused n p) = p
 
-refused-number : {n m p q : ℕ} → _≡_ {A = Answer (Unit {0})} (refused n p) (refused m q) → n ≡ m
+-- Equal refusals have one number,
+pub refused-number : {n m p q : ℕ} → _≡_ {A = Answer (Unit {0})} (refused n p) (refused m q) → n ≡ m
 refused-number e = ap number-in e
 
+-- and one place;
 refused-place : {n m p q : ℕ} → _≡_ {A = Answer (Unit {0})} (refused n p) (refused m q) → p ≡ q
 refused-place e = ap place-in e
 
@@ -42,7 +44,8 @@ abbrev refuses : Answer (Unit {0}) → Bool
 refuses (accepted u) = false
 refuses (refused n p) = true
 
-not-both : {n p : ℕ} → _≡_ {A = Answer (Unit {0})} (accepted tt) (refused n p) → ⊥
+-- and what is accepted is not refused.
+pub not-both : {n p : ℕ} → _≡_ {A = Answer (Unit {0})} (accepted tt) (refused n p) → ⊥
 not-both e = false≢true (ap refuses e)
 
 -- ---- checks whose places ascend

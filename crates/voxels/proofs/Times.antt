@@ -12,7 +12,7 @@ use Rattle.geometry.specs.declared.axis.Axis.the-variants.{X, Y, Z}
 use Rattle.geometry.specs.Point.{Point, at, along}
 use Rattle.geometry.specs.Axes.{bit}
 use Rattle.geometry.proofs.Refusals.{split}
-pub use Rattle.geometry.proofs.Tests.{both-true}
+use Rattle.geometry.proofs.Tests.{both-true}
 use Rattle.voxels.specs.declared.extent.Extent.{Extent}
 use Rattle.voxels.specs.Extent.{Inside, every, scan, those, Each, between, inside, samePoint, times, howMany}
 use Rattle.voxels.proofs.Scan.{each-every, each-up, scan-inside}
