@@ -15,6 +15,7 @@ use Rattle.geometry.specs.declared.face.Corner.the-variants.{MinuMinv, MaxuMinv
 use Rattle.geometry.specs.Point.{Point, at}
 use Rattle.geometry.specs.Axes.{permutationOf}
 use Rattle.geometry.specs.Refusal.{Answer, accepted, refused, answer, atPlace0, andThen}
+use Rattle.greedy.specs.Call.{quadFrom}
 use Rattle.spunmarrow.specs.declared.numbers.CornerAnswer
 use Rattle.spunmarrow.specs.declared.numbers.AxisAnswer
 
@@ -24,9 +25,9 @@ use Rattle.spunmarrow.specs.declared.numbers.AxisAnswer
 unfoldable pub pointOf : List ℕ → Point
 pointOf l = at (getD l 0 0) (getD l 1 0) (getD l 2 0)
 
--- The quad of five numbers: minimum x, y, z, width, height.
-unfoldable pub quadOf : List ℕ → UnorientedQuad
-quadOf l = record { minimum = at (getD l 0 0) (getD l 1 0) (getD l 2 0); width = getD l 3 0; height = getD l 4 0 }
+-- The quad of five numbers, as it is read from an output: minimum x, y, z, width, height.
+abbrev pub quadOf : List ℕ → UnorientedQuad
+quadOf = quadFrom
 
 -- ---- numbers of cases
 

@@ -1,7 +1,7 @@
 -- `quad` meets its contract.
 use borrow.Author.Needs.{needs}
 use mathlib.Core.Path.{refl}
-use Rattle.spunmarrow.specs.Numbers.{quadOf}
+use Rattle.greedy.specs.Call.{quadFrom}
 use Rattle.spunmarrow.proofs.numbers.quad.Statement.{statement}
 use Rattle.spunmarrow.proofs.numbers.quad.Tie as tie
 
@@ -21,7 +21,7 @@ element-copy-out-height : tie.Need-element-copy-out-height
 element-copy-out-height c = search needs
 
 returns : tie.Need-returns
-unfolding quadOf
+unfolding quadFrom
 returns c = refl
 
 pub quad-spec : {M : Type 1} → statement M
