@@ -22,6 +22,18 @@ pub fn run() {
     made(b"-2147483648", -2147483648);
 }
 
+// The six canonical faces.
+pub fn six() -> [OrientedBlockFace; 6] {
+    [
+        OrientedBlockFace::canonical(SignedAxis::PosX),
+        OrientedBlockFace::canonical(SignedAxis::NegX),
+        OrientedBlockFace::canonical(SignedAxis::PosY),
+        OrientedBlockFace::canonical(SignedAxis::NegY),
+        OrientedBlockFace::canonical(SignedAxis::PosZ),
+        OrientedBlockFace::canonical(SignedAxis::NegZ),
+    ]
+}
+
 // A canonical face, and its normals.
 fn canonical(name: &[u8], a: SignedAxis) {
     let f = OrientedBlockFace::canonical(a);

@@ -1,6 +1,7 @@
 // Document 01, 'Greedy meshing': E1 to E9, E12 and E13. Every output is lent full of 9, and the
 // visited bytes as 255, so that what was not written shows. Where an example names one face, the call
 // gets it six times: six equal groups, and six times its tests.
+use crate::faces;
 use crate::show;
 use geometry::axis::AxisPermutation;
 use geometry::axis::SignedAxis;
@@ -44,18 +45,6 @@ fn readme() {
     show::end();
 }
 
-// The six canonical faces.
-fn canonical() -> [OrientedBlockFace; 6] {
-    [
-        OrientedBlockFace::canonical(SignedAxis::PosX),
-        OrientedBlockFace::canonical(SignedAxis::NegX),
-        OrientedBlockFace::canonical(SignedAxis::PosY),
-        OrientedBlockFace::canonical(SignedAxis::NegY),
-        OrientedBlockFace::canonical(SignedAxis::PosZ),
-        OrientedBlockFace::canonical(SignedAxis::NegZ),
-    ]
-}
-
 // One face six times.
 fn only(normal: SignedAxis) -> [OrientedBlockFace; 6] {
     let face = OrientedBlockFace::canonical(normal);
@@ -72,14 +61,14 @@ fn one_voxel() {
         3,
         3,
         3,
-        canonical(),
+        faces::six(),
         29,
         4,
     );
     block[13] = 32775;
-    meshed(b"E1", &block, 3, 3, 3, canonical(), 29, 33);
-    meshed(b"E12 capacity 5", &block, 3, 3, 3, canonical(), 29, 28);
-    meshed(b"E12 capacity 0", &block, 3, 3, 3, canonical(), 29, 0);
+    meshed(b"E1", &block, 3, 3, 3, faces::six(), 29, 33);
+    meshed(b"E12 capacity 5", &block, 3, 3, 3, faces::six(), 29, 28);
+    meshed(b"E12 capacity 0", &block, 3, 3, 3, faces::six(), 29, 0);
 }
 
 // E2 and E3, on +Z.
@@ -136,7 +125,7 @@ fn six_groups() {
     let mut block = [0u16; 36];
     block[17] = 32775;
     block[18] = 16391;
-    meshed(b"E8, six faces", &block, 4, 3, 3, canonical(), 36, 36);
+    meshed(b"E8, six faces", &block, 4, 3, 3, faces::six(), 36, 36);
 }
 
 // E6 on the odd face of +Y, whose u is X: the slice is scanned in the same order, and the first quad
@@ -160,11 +149,11 @@ fn cut() {
 // refused.
 fn spans() {
     let block = [32775u16; 8];
-    meshed(b"E13 span 2", &block, 2, 2, 2, canonical(), 9, 3);
-    meshed(b"E13 span 1", &block, 2, 1, 2, canonical(), 4, 3);
+    meshed(b"E13 span 2", &block, 2, 2, 2, faces::six(), 9, 3);
+    meshed(b"E13 span 1", &block, 2, 1, 2, faces::six(), 4, 3);
     let long = [32775u16; 1028];
-    meshed(b"E13 axis 256", &long, 256, 2, 2, canonical(), 1025, 3);
-    meshed(b"E13 axis 257", &long, 257, 2, 2, canonical(), 4, 3);
+    meshed(b"E13 axis 256", &long, 256, 2, 2, faces::six(), 1025, 3);
+    meshed(b"E13 axis 257", &long, 257, 2, 2, faces::six(), 4, 3);
 }
 
 // A box in the middle of a shape of opaque voxels: its interior is one voxel, which shows a face
@@ -179,7 +168,15 @@ fn boxes() {
     let min = UVec3 { x: 1, y: 1, z: 1 };
     let max = UVec3 { x: 3, y: 3, z: 3 };
     let shape = UVec3 { x: 5, y: 5, z: 5 };
-    let answer = greedy::greedy_quads(&block, shape, min, max, canonical(), &mut visited, &mut out);
+    let answer = greedy::greedy_quads(
+        &block,
+        shape,
+        min,
+        max,
+        faces::six(),
+        &mut visited,
+        &mut out,
+    );
     answered(answer);
     left(&visited, &out);
 }
@@ -193,7 +190,7 @@ fn refusals() {
         3,
         3,
         3,
-        canonical(),
+        faces::six(),
         26,
         5,
     );
@@ -204,7 +201,7 @@ fn refusals() {
         3,
         3,
         3,
-        canonical(),
+        faces::six(),
         27,
         5,
     );

@@ -1,5 +1,6 @@
 // Document 01, 'Unit meshing': E1, E7, E8, E12 and E13 as unit meshing. Every output is lent full of
 // 9, so that what was not written shows.
+use crate::faces;
 use crate::show;
 use geometry::axis::SignedAxis;
 use geometry::face::OrientedBlockFace;
@@ -43,18 +44,6 @@ fn caller() {
     let mut none = [9u32; 0];
     show::count(looks_up(&block, &mut none));
     show::end();
-}
-
-// The six canonical faces.
-fn six() -> [OrientedBlockFace; 6] {
-    [
-        OrientedBlockFace::canonical(SignedAxis::PosX),
-        OrientedBlockFace::canonical(SignedAxis::NegX),
-        OrientedBlockFace::canonical(SignedAxis::PosY),
-        OrientedBlockFace::canonical(SignedAxis::NegY),
-        OrientedBlockFace::canonical(SignedAxis::PosZ),
-        OrientedBlockFace::canonical(SignedAxis::NegZ),
-    ]
 }
 
 // E1 and E12: no voxel and one opaque voxel, with room for six quads, for five (one number short of
@@ -108,7 +97,7 @@ fn boxes() {
     let min = UVec3 { x: 1, y: 1, z: 1 };
     let max = UVec3 { x: 4, y: 4, z: 3 };
     let shape = UVec3 { x: 5, y: 5, z: 5 };
-    let answer = simple::visible_block_faces(&block, shape, min, max, six(), &mut out);
+    let answer = simple::visible_block_faces(&block, shape, min, max, faces::six(), &mut out);
     answered(answer, &out);
 }
 
@@ -131,7 +120,7 @@ fn meshed(name: &[u8], block: &[u16], x: u32, y: u32, z: u32, out: &mut [u32]) {
         y: show::last(y),
         z: show::last(z),
     };
-    let answer = simple::visible_block_faces(block, shape, min, max, six(), &mut *out);
+    let answer = simple::visible_block_faces(block, shape, min, max, faces::six(), &mut *out);
     answered(answer, out);
 }
 
