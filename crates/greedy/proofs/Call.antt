@@ -6,31 +6,37 @@ use Prim.Native.Nat.{ℕ, zero, suc, _+_, _-_, _*_, _≤_, _<_}
 use native.Mathlib.Nat.{suc-mul, div-mul-le-self}
 use native.Mathlib.Omega.{arith}
 use lib.Dec.{eqb, ltb}
-use lib.ListN.{length, getD, take, drop, replicate, length-append, length-drop, take-append-drop}
+use lib.ListN.{length, take, drop, length-append, length-drop, take-append-drop}
 use lib.Seq.{length-take-le, take-all, drop-at}
 use borrow.Author.Tests.{ltb-true, ltb-false}
-use Rattle.geometry.specs.declared.axis.Axis.{Axis}
 use Rattle.geometry.specs.declared.quad.UnorientedQuad.{UnorientedQuad}
 use Rattle.geometry.specs.declared.face.OrientedBlockFace.{OrientedBlockFace}
 use Rattle.geometry.specs.Point.{Point}
 use Rattle.geometry.specs.Axes.{bit}
 use Rattle.geometry.specs.Refusal.{Answer, accepted, refused, Check, answer, checked, follow}
-use Rattle.geometry.specs.Statements.{Drawn}
 use Rattle.geometry.proofs.Refusals.{split, applies, passes}
-use Rattle.voxels.specs.declared.extent.Extent.{Extent}
-use Rattle.voxels.specs.Shape.{size, index, Field, field}
+use Rattle.voxels.specs.Shape.{index, Field, field}
 use Rattle.voxels.specs.Extent.{box, interior, scan, Each, inside, howMany}
 use Rattle.voxels.specs.Visible.{visible}
 use Rattle.voxels.specs.Checks.{badFacesFrom, badFaces, fewVisited, badVoxelAt, badVoxels, boundsChecks, greedyChecks}
 use Rattle.voxels.specs.Listing.{joined, overwritten, capacity, lay, atExit}
 use Rattle.voxels.proofs.Scan.{each-append, each-up}
 use Rattle.voxels.proofs.Pushed.{lay-many, lay-fits}
+use Rattle.voxels.proofs.Passed.{greedy-passed}
 use Rattle.voxels.proofs.Lowest.{refused-number, not-both}
+use Rattle.rules.specs.Group.{contains}
+use Rattle.rules.specs.Greedy.{greedyGroup, greedyGroups, greedyTests}
+use Rattle.rules.specs.Demand.{covers, Consistent}
+use Rattle.rules.specs.Choices.{allPass}
+use Rattle.rules.specs.Drawn.{GroupDrawn}
+use Rattle.rules.proofs.Demand.{greedy-cover, greedy-areas, greedy-tests}
+use Rattle.rules.proofs.Laid.{all-each}
+use Rattle.rules.proofs.Counts.{howMany-append}
+use Rattle.rules.proofs.Drawn.{greedy-drawn}
+use Rattle.greedy.specs.Greedy.{Listed, listed, quadNumbers, numbersOf, greedyAnswer, GreedyOutcome, outcome, greedyQuads, listedGroups}
+use Rattle.greedy.specs.Call.{quadFrom, quadsIn, groupsIn, Matched, Meshed, TestsBounded, CallHolds, firstOf, PartMeshed, NineHolds}
+use Rattle.voxels.specs.declared.extent.Extent.{Extent}
 use Rattle.greedy.specs.declared.GreedyAnswer.{GreedyAnswer}
-use Rattle.greedy.specs.Group.{contains}
-use Rattle.greedy.specs.Greedy.{Listed, listed, listedGroup, quadNumbers, numbersOf, greedyGroup, greedyGroups, greedyTests, greedyAnswer, GreedyOutcome, outcome, greedyQuads}
-use Rattle.greedy.specs.Demand.{covers, Cover, Areas, Tests, Consistent, allPass}
-use Rattle.greedy.specs.Call.{quadFrom, quadsIn, groupsIn, Matched, Meshed, TestsBounded, CallHolds, firstOf, ruleGroups, PartMeshed, NineHolds}
 use contract.Lifetimes
 use borrow.Fn.World
 use borrow.Fn.Kinds
@@ -38,11 +44,6 @@ use denote.Triple.Clauses
 use Rattle.greedy.proofs.greedy_quads
 use Rattle.greedy.proofs.greedy_quads.Kinds as greedy-quads-kinds
 use Rattle.greedy.proofs.greedy_quads.Reads as greedy-quads
-use Rattle.greedy.proofs.Demand.{greedy-cover, greedy-areas, greedy-tests}
-use Rattle.greedy.proofs.Laid.{all-each}
-use Rattle.greedy.proofs.Counts.{howMany-append}
-use Rattle.greedy.specs.Drawn.{GroupDrawn}
-use Rattle.greedy.proofs.Drawn.{greedy-drawn}
 
 -- ---- cutting groups out of a list of numbers
 
@@ -167,8 +168,8 @@ map-joined f (l ∷ ls) = map-append f l (joined ls) ∙ ap (λ (r : List _). ma
 
 module _ (inner : Extent) (v : Field) where
   -- The groups that are listed are the rule's.
-  groups-back : (faces : List OrientedBlockFace) → map (map (λ (a : Listed). a .quad)) (greedyGroups inner v faces) ≡ ruleGroups inner v faces
-  unfolding greedyGroups
+  groups-back : (faces : List OrientedBlockFace) → map (map (λ (a : Listed). a .quad)) (listedGroups inner v faces) ≡ greedyGroups inner v faces
+  unfolding listedGroups greedyGroups
   groups-back [] = refl
   groups-back (f ∷ faces) = rw (back (greedyGroup inner v f .quads), groups-back faces)
 
@@ -193,7 +194,7 @@ module _ (voxels : List ℕ) (shape min max : Point) (faces : List OrientedBlock
   checks = greedyChecks voxels shape min max faces (length bytes)
 
   abbrev groups : List (List Listed)
-  groups = greedyGroups inner v faces
+  groups = listedGroups inner v faces
 
   answer-is : r ≡ greedyAnswer (greedyTests inner v faces) (follow (checked checks) (lay quadNumbers numbersOf groups was .answer))
   unfolding greedyQuads
@@ -225,6 +226,7 @@ module _ (voxels : List ℕ) (shape min max : Point) (faces : List OrientedBlock
 
   -- Every call that answers 0 has demand 3.
   pub outcome-holds : r .refusal ≡ 0 → CallHolds voxels shape min max faces r out
+  unfolding greedyGroups
   outcome-holds is-zero =
       let entered = passed 0 is-zero refl in
       split (ltb (capacity quadNumbers (length was)) (length (joined groups)))
@@ -234,18 +236,20 @@ module _ (voxels : List ℕ) (shape min max : Point) (faces : List OrientedBlock
       (λ e.
       let fits : length (joined groups) ≤ capacity quadNumbers (length was) = ltb-false _ _ e in
       let is : r ≡ greedyAnswer (greedyTests inner v faces) (accepted (map length groups)) = made entered ∙ ap (greedyAnswer (greedyTests inner v faces)) (lay-fits quadNumbers numbersOf groups was fits) in
-      let cut : groupsIn (r .counts) out ≡ ruleGroups inner v faces =
+      let cut : groupsIn (r .counts) out ≡ greedyGroups inner v faces =
       ap (λ (a : GreedyAnswer). groupsIn (a .counts) out) is
       ∙ rw (left entered, take-all (capacity quadNumbers (length was)) (joined groups) fits) (groups-in groups (drop (length (all (joined groups))) was))
       ∙ groups-back inner v faces in
+      let parts = greedy-passed voxels shape min max faces (length bytes) entered .0 in
       record {
-        groups = rw cut (matched-each (Meshed v inner) _ faces (each-up (GroupDrawn inner v) (λ (f : OrientedBlockFace). Meshed v inner f (greedyGroup inner v f .quads)) (λ f d. record { cover = greedy-cover f v inner; areas = greedy-areas f v inner; drawn = d }) faces (greedy-drawn voxels shape min max faces (length bytes) entered)));
+        groups = rw cut (matched-each (Meshed v inner) _ faces (each-up (GroupDrawn inner v) (λ (f : OrientedBlockFace). Meshed v inner f (greedyGroup inner v f .quads)) (λ f d. record { cover = greedy-cover f v inner; areas = greedy-areas f v inner; drawn = d }) faces (greedy-drawn shape (length voxels) min max (parts .bounds) v faces (parts .signs))));
         tests = ap (λ (a : GreedyAnswer). a .tests) is;
         bounds = each-all (TestsBounded v inner) (λ f. greedy-tests f v inner) faces;
       })
 
   -- And what refusal 9 leaves.
   pub outcome-nine : r .refusal ≡ 9 → NineHolds voxels shape min max faces r out
+  unfolding greedyGroups
   outcome-nine is-nine =
       let entered = passed 9 is-nine refl in
       let room : ℕ = capacity quadNumbers (length was) in
@@ -256,7 +260,7 @@ module _ (voxels : List ℕ) (shape min max : Point) (faces : List OrientedBlock
       let written : List ℕ = all (take room (joined groups)) in
       let short : length (take room (joined groups)) ≡ room = length-take-le room (joined groups) (omega arith) in
       let fits : length written ≤ length was = omega (arith, all-length (take room (joined groups)), ap (λ (k : ℕ). k * quadNumbers) short, room-fits was) in
-      let first : quadsIn (r .place) out ≡ take (r .place) (joined (ruleGroups inner v faces)) =
+      let first : quadsIn (r .place) out ≡ take (r .place) (joined (greedyGroups inner v faces)) =
       rw (place, left entered)
       (ap (λ (k : ℕ). quadsIn k (all (take room (joined groups)) ++ drop (length (all (take room (joined groups)))) was)) (sym short)
       ∙ quads-in (take room (joined groups)) (drop (length (all (take room (joined groups)))) was)
@@ -266,7 +270,7 @@ module _ (voxels : List ℕ) (shape min max : Point) (faces : List OrientedBlock
       record {
         place = place ∙ ap (capacity quadNumbers) (sym same);
         first = first;
-        parts = first ∙ first-joined (r .place) (ruleGroups inner v faces);
+        parts = first ∙ first-joined (r .place) (greedyGroups inner v faces);
         disjoint = matched-first (PartMeshed v inner) _ (λ f m. part-consistent inner v f m) (r .place) faces;
       })
       (λ e.

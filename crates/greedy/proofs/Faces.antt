@@ -15,22 +15,24 @@ use Rattle.geometry.specs.declared.face.OrientedBlockFace.{OrientedBlockFace}
 use Rattle.geometry.specs.Point.{Point, along}
 use Rattle.geometry.specs.Axes.{positive, axesOf, nAxis, uAxis, vAxis}
 use Rattle.geometry.proofs.Frame.{frame}
-use Rattle.voxels.specs.declared.index.Stride.{Stride}
-use Rattle.voxels.specs.declared.extent.Extent.{Extent}
-use Rattle.voxels.specs.Shape.{size, index, stride, InShape, field}
+use Rattle.voxels.specs.Shape.{size, index, stride, field}
 use Rattle.voxels.specs.Extent.{Inside}
-use Rattle.voxels.specs.Visible.{modulus, visibilityOffset, offsetIndex}
+use Rattle.voxels.specs.Visible.{modulus, visibilityOffset}
 use Rattle.voxels.specs.Listing.{overwritten}
-use Rattle.voxels.specs.Inner.{mostVoxels, longest, Entered, output, pushedAll}
+use Rattle.voxels.specs.Inner.{mostVoxels, Entered, output, pushedAll}
 use Rattle.voxels.proofs.Places.{index-below}
 use Rattle.voxels.proofs.Entered.{below, entered-stride, minimum-index, bound-within, bound-small, inner-in-shape, inner-beyond}
+use Rattle.rules.specs.Group.{fresh, roomU, roomV}
+use Rattle.rules.specs.Greedy.{greedyGroup}
+use Rattle.rules.proofs.Spread.{spread, spread-n, spread-u, spread-v, spread-index, spread-inside}
+use Rattle.rules.specs.Group.{visited}
+use Rattle.greedy.specs.Greedy.{listedGroup}
+use Rattle.greedy.specs.Inner.{Touches, faster, slower, spanOf, faceScan, Scanned, progress, SpotReady, SlicesScan, slicesAlong, voxelTests, Accepted, Made, MadeFace}
+use Rattle.greedy.proofs.Sweeps.{spot-index, spot-inside, Same, group-same}
+use Rattle.voxels.specs.declared.index.Stride.{Stride}
+use Rattle.voxels.specs.declared.extent.Extent.{Extent}
 use Rattle.greedy.specs.declared.face_scan.Span.{Span}
 use Rattle.greedy.specs.declared.face_scan.FaceScan.{FaceScan}
-use Rattle.greedy.specs.Group.{visited, State, fresh, roomU, roomV}
-use Rattle.greedy.specs.Greedy.{quadNumbers, numbersOf, greedyGroup, listedGroup}
-use Rattle.greedy.specs.Inner.{Touches, RowReady, QuadReady, faster, slower, spot, spanOf, faceScan, Scanned, progress, SpotReady, RowScan, SliceScan, SlicesScan, slicesAlong, voxelTests, Accepted, Made, MadeFace}
-use Rattle.greedy.proofs.Spread.{spread, spread-n, spread-u, spread-v, spread-index, spread-inside}
-use Rattle.greedy.proofs.Sweeps.{spot-index, spot-inside, Same, group-same}
 
 -- ---- clearing
 

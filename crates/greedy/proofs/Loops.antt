@@ -14,12 +14,12 @@ use Rattle.voxels.specs.Listing.{overwritten}
 use Rattle.voxels.proofs.Asked.{more, done}
 use Rattle.voxels.proofs.Places.{next-at, below-last}
 use Rattle.voxels.proofs.Pushed.{pushed-counts}
-use Rattle.greedy.specs.declared.face_scan.FaceScan.{FaceScan}
+use Rattle.rules.specs.Group.{Pick}
+use Rattle.rules.specs.Merger.{Walked}
 use Rattle.greedy.specs.Greedy.{listed, quadNumbers, numbersOf}
-use Rattle.greedy.specs.Group.{Pick}
 use Rattle.greedy.specs.Inner.{walked, walkedRows, stepBy, needsAt, joinsAt, Touches, rowAt, quadAt, QuadReady, RowMarked, QuadMarked, steps, markQuadAt, Scanned, progress, roomTo, laidBy, laidAt, scannedAt, SpotReady, voxelTests, Made}
-use Rattle.greedy.specs.Merger.{Walked}
 use Rattle.greedy.proofs.Walks.{walked-at-most, row-at-most, row-less, first-row}
+use Rattle.greedy.specs.declared.face_scan.FaceScan.{FaceScan}
 
 -- A loop, k of n done.
 module _ {S : Type 0} (d : ℕ) (act : S → ℕ → ℕ → S) where

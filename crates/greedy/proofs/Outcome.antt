@@ -1,11 +1,11 @@
 -- From the faces' groups to the whole outcome: the tests summed, what laying the groups answers, what a refused entry leaves, and what an accepted one is known to be and leaves.
-use mathlib.Core.List.{List, [], _∷_, _++_, map}
+use mathlib.Core.List.{List, [], _∷_, _++_}
 use mathlib.Core.Path.{_≡_, refl, sym, _∙_, ap}
 use Prim.Native.Nat.{ℕ, _+_, _≤_, _<_}
 use native.Mathlib.Nat.{add-zero, zero-add, add-assoc}
 use native.Mathlib.Omega.{arith}
 use lib.IntN.{pos}
-use lib.ListN.{length, getD, take, drop, replicate}
+use lib.ListN.{length, getD, take, replicate}
 use lib.Seq.{take-all}
 use borrow.Author.Tests.{ltb-false}
 use Rattle.geometry.specs.declared.axis.AxisPermutation.the-variants.{Xyz}
@@ -13,21 +13,22 @@ use Rattle.geometry.specs.declared.face.OrientedBlockFace.{OrientedBlockFace}
 use Rattle.geometry.specs.Point.{Point}
 use Rattle.geometry.specs.Refusal.{accepted, refused, Check, answer}
 use Rattle.geometry.proofs.Refusals.{accepts-value, accepts-checked, first-passes}
-use Rattle.voxels.specs.declared.extent.Extent.{Extent}
-use Rattle.voxels.specs.declared.bounds.Entry.{Entry}
 use Rattle.voxels.specs.Shape.{size, Field, field}
-use Rattle.voxels.specs.Checks.{boundsChecks, badFaces, fewVisited, badVoxels, greedyChecks}
+use Rattle.voxels.specs.Checks.{greedyChecks}
 use Rattle.voxels.specs.Listing.{overwritten, capacity, lay}
 use Rattle.voxels.specs.Answers.{entry}
-use Rattle.voxels.specs.Inner.{MadeGroups}
-use Rattle.voxels.proofs.Orders.{both-pass, answer-refused}
+use Rattle.voxels.proofs.Orders.{answer-refused}
+use Rattle.voxels.proofs.Passed.{greedy-passed}
 use Rattle.voxels.proofs.Held.{bounds-held}
 use Rattle.voxels.proofs.Entered.{interior-is}
 use Rattle.voxels.proofs.Groups.{take-next, laid-many, laid-counts, laid-out}
-use Rattle.greedy.specs.declared.GreedyAnswer.{GreedyAnswer}
-use Rattle.greedy.specs.Greedy.{Listed, quadNumbers, numbersOf, greedyGroup, greedyGroups, greedyTests, greedyAnswer, GreedyOutcome, outcome, greedyQuads}
+use Rattle.rules.specs.Greedy.{greedyGroup, greedyTests}
+use Rattle.greedy.specs.Greedy.{Listed, quadNumbers, numbersOf, greedyAnswer, GreedyOutcome, outcome, greedyQuads, listedGroups}
 use Rattle.greedy.specs.Inner.{Accepted, MadeFaces, laidOutcome}
 use Rattle.greedy.proofs.Faces.{cleared-again}
+use Rattle.voxels.specs.declared.extent.Extent.{Extent}
+use Rattle.voxels.specs.declared.bounds.Entry.{Entry}
+use Rattle.greedy.specs.declared.GreedyAnswer.{GreedyAnswer}
 
 -- A listed quad has so many numbers.
 pub numbers-length : (l : Listed) → length (numbersOf l) ≡ quadNumbers
@@ -92,17 +93,15 @@ module _ (voxels : List ℕ) (shape min max : Point) (faces : List OrientedBlock
 
     pub is-accepted : Accepted (length voxels) (length bytes) shape (e .interior)
     is-accepted =
-        let bounds = boundsChecks (length voxels) shape min max in
-        let all = both-pass (bounds ++ badFaces faces ++ fewVisited (length bytes) shape) (badVoxels voxels shape min max) (accepts-checked checks (entry shape min max) enters) .0 in
-        let parts = both-pass (bounds ++ badFaces faces) (fewVisited (length bytes) shape) all in
+        let passed = greedy-passed voxels shape min max faces (length bytes) (accepts-checked checks (entry shape min max) enters) in
         record {
-          entered = record { min = min; max = max; is = interior-is checks shape min max enters; held = bounds-held shape (length voxels) min max (both-pass bounds (badFaces faces) (parts .0) .0) };
-          marked = ltb-false (length bytes) (size shape) (first-passes _ _ _ (parts .1));
+          entered = record { min = min; max = max; is = interior-is checks shape min max enters; held = bounds-held shape (length voxels) min max (passed .0 .bounds) };
+          marked = ltb-false (length bytes) (size shape) (first-passes _ _ _ (passed .1));
         }
 
     -- It leaves what laying the groups leaves, and the first bytes 0.
     pub entered-outcome : (n : ℕ) → n ≡ e .size → (out : List ℕ) {o : GreedyOutcome}
-        → o ≡ laidOutcome (greedyTests (e .interior) (field shape voxels) faces) (overwritten (replicate n 0) bytes) (lay quadNumbers numbersOf (greedyGroups (e .interior) (field shape voxels) faces) out)
+        → o ≡ laidOutcome (greedyTests (e .interior) (field shape voxels) faces) (overwritten (replicate n 0) bytes) (lay quadNumbers numbersOf (listedGroups (e .interior) (field shape voxels) faces) out)
         → o ≡ greedyQuads voxels shape min max faces bytes out
     unfolding greedyQuads
     entered-outcome n is out h = h ∙ rw (accepts-checked checks (entry shape min max) enters, interior-is checks shape min max enters, is, size-is)

@@ -12,7 +12,6 @@ use Rattle.geometry.specs.declared.face.OrientedBlockFace.{OrientedBlockFace}
 use Rattle.geometry.specs.Point.{Point, at, along, put}
 use Rattle.geometry.specs.Axes.{positive, nAxis, uAxis, vAxis}
 use Rattle.geometry.proofs.Refusals.{split}
-use Rattle.voxels.specs.declared.extent.Extent.{Extent}
 use Rattle.voxels.specs.Shape.{size, index, stride, Field, field}
 use Rattle.voxels.specs.Extent.{Inside, every, upTo, scan}
 use Rattle.voxels.specs.Visible.{visibilityOffset}
@@ -22,16 +21,18 @@ use Rattle.voxels.proofs.Scan.{each-same, inside-at}
 use Rattle.voxels.proofs.Entered.{inner-in-shape}
 use Rattle.voxels.proofs.Pushed.{pushed-append}
 use Rattle.voxels.proofs.Groups.{map-one-more}
-use Rattle.greedy.specs.declared.face_scan.FaceScan.{FaceScan}
-use Rattle.greedy.specs.Group.{sliceAt, sweep, passes, Choice, State, scanned, swept, fresh, group, Pick, roomU, roomV}
-use Rattle.greedy.specs.Merger.{voxelMerger}
-use Rattle.greedy.specs.Greedy.{listed, quadNumbers, numbersOf, greedyGroup}
-use Rattle.greedy.specs.Demand.{groupFrom, quadOf}
+use Rattle.rules.specs.Group.{sliceAt, sweep, passes, Choice, State, scanned, swept, fresh, group, Pick, roomU, roomV, quadOf}
+use Rattle.rules.specs.Merger.{voxelMerger}
+use Rattle.rules.specs.Greedy.{greedyGroup}
+use Rattle.rules.specs.Choices.{groupFrom}
+use Rattle.rules.proofs.Spread.{spread, spread-index, spread-inside}
+use Rattle.greedy.specs.Greedy.{listed, quadNumbers, numbersOf}
 use Rattle.greedy.specs.Inner.{steps, quadAt, faster, slower, spot, spanOf, faceScan, Scanned, laidBy, laidAt, scannedAt, rowAlong, sliceAlong, slicesAlong}
 use Rattle.greedy.proofs.Loops.{quad-wide, quad-high}
-use Rattle.greedy.proofs.Spread.{spread, spread-index, spread-inside}
 use Rattle.greedy.proofs.Marks.{quad-length, quad-rest}
 use Rattle.greedy.proofs.Told.{Tells, tells-more, needs-same, quad-same}
+use Rattle.voxels.specs.declared.extent.Extent.{Extent}
+use Rattle.greedy.specs.declared.face_scan.FaceScan.{FaceScan}
 
 -- ---- a slice as two loops
 

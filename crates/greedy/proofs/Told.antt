@@ -11,11 +11,8 @@ use Rattle.geometry.specs.declared.quad.UnorientedQuad.{UnorientedQuad}
 use Rattle.geometry.specs.declared.face.OrientedBlockFace.{OrientedBlockFace}
 use Rattle.geometry.specs.Point.{Point, along, moved}
 use Rattle.geometry.specs.Axes.{positive, nAxis, uAxis, vAxis, bit}
-use borrow.Author.Tests.{eqb-true, eqb-false}
 use Rattle.geometry.proofs.Frame.{frame, moved-on, moved-off}
 use Rattle.geometry.proofs.Refusals.{split}
-use Rattle.voxels.specs.declared.extent.Extent.{Extent}
-use Rattle.voxels.specs.Voxel.{uniform}
 use Rattle.voxels.specs.Shape.{size, index, stride, Field, field}
 use Rattle.voxels.specs.Extent.{Inside}
 use Rattle.voxels.specs.Visible.{visible, visibilityOffset}
@@ -23,13 +20,16 @@ use Rattle.voxels.specs.Inner.{Entered}
 use Rattle.voxels.proofs.Places.{index-moved, index-below, one-point}
 use Rattle.voxels.proofs.Steps.{inside-moved}
 use Rattle.voxels.proofs.Entered.{inner-in-shape, inner-offset}
-use Rattle.greedy.specs.Group.{contains, visited, passes, Pick, roomU, roomV}
-use Rattle.greedy.specs.Merger.{Walked, follows, rowWalk, rowsWalk, voxelMerger}
+use Rattle.rules.specs.Group.{contains, passes, roomU, roomV}
+use Rattle.rules.specs.Merger.{Walked, follows, rowWalk, rowsWalk, voxelMerger}
+use Rattle.rules.proofs.Spread.{spread, spread-index, spread-inside}
+use Rattle.rules.proofs.Contains.{contains-true, spread-contained, reached}
+use Rattle.rules.specs.Group.{visited}
 use Rattle.greedy.specs.Inner.{walked, walkedRows, stepBy, needsAt, joinsAt, rowAt, quadAt, markQuadAt}
 use Rattle.greedy.proofs.Walks.{walk-passes, walk-fails, rows-whole, rows-broken, row-at-most}
-use Rattle.greedy.proofs.Spread.{spread, spread-index, spread-inside}
-use Rattle.greedy.proofs.Contains.{contains-true, spread-contained, reached}
 use Rattle.greedy.proofs.Marks.{quad-hits, quad-misses}
+use borrow.Author.Tests.{eqb-true, eqb-false}
+use Rattle.voxels.specs.declared.extent.Extent.{Extent}
 
 -- With one quad more, a point is visited where it was or where that quad contains it.
 pub visited-more : (f : OrientedBlockFace) (qs : List UnorientedQuad) (q : UnorientedQuad) (p : Point) → visited f (qs ++ (q ∷ [])) p ≡ visited f qs p || contains f q p

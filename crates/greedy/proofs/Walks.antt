@@ -14,7 +14,7 @@ use Rattle.voxels.specs.Visible.{offsetIndex}
 use Rattle.voxels.specs.Inner.{mostVoxels}
 use Rattle.voxels.proofs.Asked.{more, done}
 use Rattle.voxels.proofs.Places.{below-last}
-use Rattle.greedy.specs.Merger.{Walked, walk, pick}
+use Rattle.rules.specs.Merger.{Walked, walk, pick}
 use Rattle.greedy.specs.Inner.{walked, after, walkedRows, afterRows, stepBy, needsAt, joinsAt, rowAt, quadAt, RowReady, QuadReady}
 
 -- A walk's first step, from its test.

@@ -8,13 +8,14 @@ use Rattle.geometry.specs.declared.quad.UnorientedQuad.{UnorientedQuad}
 use Rattle.geometry.specs.declared.face.OrientedBlockFace.{OrientedBlockFace}
 use Rattle.geometry.specs.Point.{Point, at}
 use Rattle.geometry.specs.Statements.{Drawn}
-use Rattle.voxels.specs.declared.extent.Extent.{Extent}
 use Rattle.voxels.specs.Shape.{Field, field}
 use Rattle.voxels.specs.Extent.{interior, Each}
 use Rattle.voxels.specs.Listing.{joined, capacity}
+use Rattle.rules.specs.Greedy.{greedyGroup, greedyGroups, greedyTests}
+use Rattle.rules.specs.Demand.{Cover, Areas, Tests, Consistent}
+use Rattle.greedy.specs.Greedy.{quadNumbers}
+use Rattle.voxels.specs.declared.extent.Extent.{Extent}
 use Rattle.greedy.specs.declared.GreedyAnswer.{GreedyAnswer}
-use Rattle.greedy.specs.Greedy.{greedyGroup, quadNumbers, greedyTests}
-use Rattle.greedy.specs.Demand.{Cover, Areas, Tests, Consistent}
 
 -- ---- quads in an output
 
@@ -68,10 +69,6 @@ unfoldable pub firstOf : {A : Type 0} → ℕ → List (List A) → List (List A
 firstOf n [] = []
 firstOf n (l ∷ ls) = take n l ∷ firstOf (n - length l) ls
 
--- The rule's groups, one a face.
-abbrev pub ruleGroups : Extent → Field → List OrientedBlockFace → List (List UnorientedQuad)
-ruleGroups inner v faces = map (λ (f : OrientedBlockFace). greedyGroup inner v f .quads) faces
-
 -- Part of a face's group: its quads are disjoint and show only visible voxels.
 abbrev pub PartMeshed : Field → Extent → OrientedBlockFace → List UnorientedQuad → Type 0
 PartMeshed v inner f quads = Consistent f v inner quads
@@ -81,8 +78,8 @@ pub record NineHolds (voxels : List ℕ) (shape min max : Point) (faces : List O
   -- The place is the capacity of the output,
   pub place : answer .place ≡ capacity quadNumbers (length out)
   -- and so many quads stand in it: "the first quads of the listing up to its capacity",
-  pub first : quadsIn (answer .place) out ≡ take (answer .place) (joined (ruleGroups (interior min max) (field shape voxels) faces))
+  pub first : quadsIn (answer .place) out ≡ take (answer .place) (joined (greedyGroups (interior min max) (field shape voxels) faces))
   -- which are the first of each group,
-  pub parts : quadsIn (answer .place) out ≡ joined (firstOf (answer .place) (ruleGroups (interior min max) (field shape voxels) faces))
+  pub parts : quadsIn (answer .place) out ≡ joined (firstOf (answer .place) (greedyGroups (interior min max) (field shape voxels) faces))
   -- and each such part is disjoint and visible.
-  pub disjoint : Matched (PartMeshed (field shape voxels) (interior min max)) faces (firstOf (answer .place) (ruleGroups (interior min max) (field shape voxels) faces))
+  pub disjoint : Matched (PartMeshed (field shape voxels) (interior min max)) faces (firstOf (answer .place) (greedyGroups (interior min max) (field shape voxels) faces))

@@ -12,12 +12,7 @@ use Rattle.voxels.specs.Extent.{interior}
 use Rattle.voxels.specs.Checks.{greedyChecks}
 use Rattle.voxels.specs.Listing.{overwritten, Laid, lay, atExit}
 use Rattle.greedy.specs.declared.GreedyAnswer.{GreedyAnswer}
-use Rattle.greedy.specs.Group.{State, group}
-use Rattle.greedy.specs.Merger.{voxelMerger}
-
--- The greedy group of a face, with the tests made for it: the walk picks the rectangles.
-unfoldable pub greedyGroup : Extent → Field → OrientedBlockFace → State
-greedyGroup inner v f = group f v inner (voxelMerger f v)
+use Rattle.rules.specs.Greedy.{greedyGroup, greedyTests}
 
 -- A quad as it is listed.
 pub record Listed : Type 0 where
@@ -41,14 +36,9 @@ numbersOf l =
 abbrev pub listedGroup : Extent → Field → OrientedBlockFace → List Listed
 listedGroup inner v f = map listed (greedyGroup inner v f .quads)
 
--- "Six groups again, each with its own cleared visited marks; the same face given twice gives two equal groups" (108 to 110).
-unfoldable pub greedyGroups : Extent → Field → List OrientedBlockFace → List (List Listed)
-greedyGroups inner v faces = map (listedGroup inner v) faces
-
--- "the tests summed over the six faces"
-unfoldable pub greedyTests : Extent → Field → List OrientedBlockFace → ℕ
-greedyTests inner v [] = 0
-greedyTests inner v (f ∷ fs) = greedyGroup inner v f .tests + greedyTests inner v fs
+-- The six groups, listed.
+unfoldable pub listedGroups : Extent → Field → List OrientedBlockFace → List (List Listed)
+listedGroups inner v faces = map (listedGroup inner v) faces
 
 -- Document 01's answer as the struct that the call gives, from the tests and the counts or the refusal: "A refusal gives zeros for all counts." The tests are zero then too.
 abbrev pub greedyAnswer : ℕ → Answer (List ℕ) → GreedyAnswer
@@ -73,7 +63,7 @@ greedyQuads voxels shape min max faces bytes out =
     let inner : Extent = interior min max in
     let v : Field = field shape voxels in
     let entry : Answer (Unit {0}) = checked (greedyChecks voxels shape min max faces (length bytes)) in
-    let laid : Laid = lay quadNumbers numbersOf (greedyGroups inner v faces) out in
+    let laid : Laid = lay quadNumbers numbersOf (listedGroups inner v faces) out in
     outcome
     (greedyAnswer (greedyTests inner v faces) (follow entry (laid .answer)))
     (atExit entry (overwritten (replicate (size shape) 0) bytes) bytes)

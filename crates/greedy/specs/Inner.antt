@@ -10,18 +10,18 @@ use Rattle.geometry.specs.declared.axis.Axis.the-variants.{X, Y, Z}
 use Rattle.geometry.specs.declared.face.OrientedBlockFace.{OrientedBlockFace}
 use Rattle.geometry.specs.Point.{Point, at, along}
 use Rattle.geometry.specs.Axes.{positive, axesOf, nAxis, uAxis, vAxis}
-use Rattle.voxels.specs.declared.extent.Extent.{Extent}
 use Rattle.voxels.specs.Voxel.{shows, uniform}
 use Rattle.voxels.specs.Shape.{size, stride}
 use Rattle.voxels.specs.Visible.{modulus, visibilityOffset, offsetIndex}
 use Rattle.voxels.specs.Listing.{Laid}
 use Rattle.voxels.specs.Inner.{mostVoxels, longest, Entered, Output, output, pushed, pushedAll, MadeGroups}
+use Rattle.rules.specs.Group.{Pick}
+use Rattle.rules.specs.Merger.{Walked}
+use Rattle.greedy.specs.Greedy.{Listed, listed, quadNumbers, numbersOf, greedyAnswer, GreedyOutcome}
+use Rattle.voxels.specs.declared.extent.Extent.{Extent}
 use Rattle.greedy.specs.declared.face_scan.Span.{Span}
 use Rattle.greedy.specs.declared.face_scan.FaceScan.{FaceScan}
-use Rattle.greedy.specs.Group.{Pick}
-use Rattle.greedy.specs.Merger.{Walked}
 use Rattle.greedy.specs.Greedy as rule
-use Rattle.greedy.specs.Greedy.{Listed, listed, quadNumbers, numbersOf, greedyAnswer, GreedyOutcome}
 
 -- ---- walks in general
 

@@ -12,7 +12,8 @@ ghost use Rattle.geometry.specs.Refusal as refusal;
 ghost use Rattle.voxels.specs.Shape as shape;
 ghost use Rattle.voxels.specs.Listing as listing;
 ghost use Rattle.voxels.specs.Inner.{mostVoxels, output, pushed};
-ghost use Rattle.greedy.specs.Greedy.{quadNumbers, numbersOf, listed, greedyGroup, listedGroup, greedyGroups, greedyTests, greedyAnswer, outcome, greedyQuads};
+ghost use Rattle.rules.specs.Greedy.{greedyGroup, greedyTests};
+ghost use Rattle.greedy.specs.Greedy.{quadNumbers, numbersOf, listed, listedGroup, greedyAnswer, outcome, greedyQuads, listedGroups};
 ghost use Rattle.greedy.specs.Inner.{Touches, needsAt, RowReady, Idle, SpotReady, RowScan, SliceScan, SlicesScan, voxelTests, ampleTests, Made, MadeFace, MadeFaces, Accepted, progress, laidAt, rowAlong, sliceAlong, slicesAlong, laidOutcome};
 
 mod face_scan;
@@ -356,7 +357,7 @@ fn mesh_faces(
 ) -> Meshed
     requires { ⌜ (capacity ≡ listing.capacity quadNumbers (length (now out))) × (size ≡ shape.size «voxels_shape») ⌝ }
     requires { ⌜ Accepted (length (now voxels)) (length (now visited)) «voxels_shape» interior ⌝ }
-    ensures { λ r. ⌜ MadeFaces size (greedyGroups interior (shape.field «voxels_shape» (now (voxels .entry))) faces) (greedyTests interior (shape.field «voxels_shape» (now (voxels .entry))) faces) (now (visited .entry)) (now (out .entry)) (now (visited .exit)) (now (out .exit)) (r .listed) (r .tests) (r .counts) ⌝ }
+    ensures { λ r. ⌜ MadeFaces size (listedGroups interior (shape.field «voxels_shape» (now (voxels .entry))) faces) (greedyTests interior (shape.field «voxels_shape» (now (voxels .entry))) faces) (now (visited .entry)) (now (out .entry)) (now (visited .exit)) (now (out .exit)) (r .listed) (r .tests) (r .counts) ⌝ }
 {
     let mut counts = [0u64; 6];
     let mut listed: usize = 0;
@@ -413,7 +414,7 @@ fn mesh(
 ) -> GreedyAnswer
     requires { ⌜ size ≡ shape.size «voxels_shape» ⌝ }
     requires { ⌜ Accepted (length (now voxels)) (length (now visited)) «voxels_shape» interior ⌝ }
-    ensures { λ r. ⌜ outcome r (now (visited .exit)) (now (out .exit)) ≡ laidOutcome (greedyTests interior (shape.field «voxels_shape» (now (voxels .entry))) faces) (listing.overwritten (replicate size 0) (now (visited .entry))) (listing.lay quadNumbers numbersOf (greedyGroups interior (shape.field «voxels_shape» (now (voxels .entry))) faces) (now (out .entry))) ⌝ }
+    ensures { λ r. ⌜ outcome r (now (visited .exit)) (now (out .exit)) ≡ laidOutcome (greedyTests interior (shape.field «voxels_shape» (now (voxels .entry))) faces) (listing.overwritten (replicate size 0) (now (visited .entry))) (listing.lay quadNumbers numbersOf (listedGroups interior (shape.field «voxels_shape» (now (voxels .entry))) faces) (now (out .entry))) ⌝ }
 {
     let capacity = out.len() / QUAD_NUMBERS;
     let meshed = mesh_faces(

@@ -2,7 +2,7 @@
 ghost use mathlib.Core.Path.{_≡_};
 ghost use lib.ListN.{length};
 ghost use Rattle.greedy.specs.Inner.{RowReady, QuadReady, rowAt, quadAt};
-ghost use Rattle.greedy.specs.Merger as rule;
+ghost use Rattle.rules.specs.Merger as rule;
 use crate::face_needs_mesh;
 use voxels::index::Stride;
 use voxels::index::VoxelIndex;

@@ -10,7 +10,6 @@ use Rattle.geometry.specs.declared.axis.Axis.the-variants.{X, Y, Z}
 use Rattle.geometry.specs.declared.face.OrientedBlockFace.{OrientedBlockFace}
 use Rattle.geometry.specs.Point.{Point, at, along}
 use Rattle.geometry.specs.Axes.{positive, nAxis}
-use Rattle.voxels.specs.declared.extent.Extent.{Extent}
 use Rattle.voxels.specs.Shape.{size, index, stride, InShape, field}
 use Rattle.voxels.specs.Extent.{interior, scan}
 use Rattle.voxels.specs.Visible.{modulus, stepped, visible, visibilityOffset, offsetIndex}
@@ -20,8 +19,9 @@ use Rattle.voxels.proofs.Scan.{those-gathered, gathered-scan, every-in-step, in
 use Rattle.voxels.proofs.Held.{axis-small, stride-is}
 use Rattle.voxels.proofs.Entered.{minimum-index}
 use Rattle.voxels.proofs.Steps.{box-in-shape, neighbour-in-box, offset-leads}
-use Rattle.simple.specs.Unit.{unitGroup}
+use Rattle.rules.specs.Unit.{unitGroup}
 use Rattle.simple.specs.Inner.{showsAt, voxelQuad, rowQuads, sliceQuads, slicesQuads, RowReady, SliceReady, SlicesReady}
+use Rattle.voxels.specs.declared.extent.Extent.{Extent}
 
 module _ (shape : Point) (lent : ℕ) (min max : Point) (h : Held shape lent min max) (up : Bool) (n : Axis) where
   abbrev inner : Extent

@@ -23,9 +23,5 @@ pub mod Whole
 pub mod Laid
 -- From the entry to the whole outcome.
 pub mod Outcome
--- What its reader is told.
-pub mod Reader
--- That its quads can be drawn.
-pub mod Drawn
 -- That the public contract leaves one outcome.
 pub mod Unique

@@ -12,20 +12,21 @@ use Rattle.geometry.specs.declared.face.OrientedBlockFace.{OrientedBlockFace}
 use Rattle.geometry.specs.Point.{Point}
 use Rattle.geometry.specs.Axes.{nAxis}
 use Rattle.geometry.proofs.Refusals.{split}
-use Rattle.voxels.specs.declared.extent.Extent.{Extent}
-use Rattle.voxels.specs.declared.index.Stride.{Stride}
 use Rattle.voxels.specs.Shape.{index, stride, field}
 use Rattle.voxels.specs.Extent.{interior}
 use Rattle.voxels.specs.Visible.{modulus}
 use Rattle.voxels.specs.Inner.{mostVoxels, Entered, SoundAround, output, MadeGroups}
 use Rattle.voxels.proofs.Entered.{minimum-index, entered-stride}
-use Rattle.simple.specs.Unit.{unitNumbers, numbersOf, unitGroup, unitGroups}
+use Rattle.rules.specs.Unit.{unitGroup, unitGroups}
+use Rattle.simple.specs.Unit.{unitNumbers, numbersOf}
 use Rattle.simple.specs.Inner.{slicesQuads, slicesShown, offsetOf, SlicesReady, EachFace, Room, SlicesSound, Apart, Counted, Listed, kernelStride, noFace, KernelOf, startOf, Starts}
 use Rattle.simple.proofs.Faces.{FaceReady, face-ready}
 use Rattle.simple.proofs.Soundness.{slices-sound}
 use Rattle.simple.proofs.Totals.{slices-length, slices-at-most}
 use Rattle.simple.proofs.Sixes.{counted-zeros}
 use Rattle.simple.proofs.Runs.{runs-none, joined-apart, listed-joined}
+use Rattle.voxels.specs.declared.extent.Extent.{Extent}
+use Rattle.voxels.specs.declared.index.Stride.{Stride}
 
 -- The lengths of the faces' lists, face by face.
 lengths-at : (g : OrientedBlockFace → List Point) (faces : List OrientedBlockFace) (f : ℕ) → f < length faces → getD (map length (map g faces)) f 0 ≡ length (g (getD faces f noFace))

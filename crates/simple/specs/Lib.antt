@@ -1,6 +1,4 @@
--- The rule of unit meshing, and its whole outcome.
+-- The whole outcome of unit meshing; its rule stands in crates/rules/specs.
 pub mod Unit
--- What is shown of it for its reader.
-pub mod Statements
 -- For private contracts alone:
 pub mod Inner

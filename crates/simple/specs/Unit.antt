@@ -5,22 +5,13 @@ use lib.ListN.{replicate}
 use Rattle.geometry.specs.declared.face.OrientedBlockFace.{OrientedBlockFace}
 use Rattle.geometry.specs.Refusal.{Answer, accepted, refused, checked, follow}
 use Rattle.geometry.specs.Point.{Point}
-use Rattle.voxels.specs.declared.extent.Extent.{Extent}
-use Rattle.voxels.specs.Shape.{Field, field}
-use Rattle.voxels.specs.Extent.{interior, scan, those}
-use Rattle.voxels.specs.Visible.{visible}
+use Rattle.voxels.specs.Shape.{field}
+use Rattle.voxels.specs.Extent.{interior}
 use Rattle.voxels.specs.Checks.{unitChecks}
 use Rattle.voxels.specs.Listing.{Laid, lay, atExit}
+use Rattle.rules.specs.Unit.{unitGroups}
+use Rattle.voxels.specs.declared.extent.Extent.{Extent}
 use Rattle.simple.specs.declared.UnitAnswer.{UnitAnswer}
-
--- "A group lists the minima .. of all visible interior voxels in scan order" (61 to 86). The Rust walks the interior once and appends to each face's group as it goes;
--- each group on its own is this.
-unfoldable pub unitGroup : Extent → Field → OrientedBlockFace → List Point
-unitGroup inner v f = those (visible f v) (scan inner)
-
--- "Six groups, one a face, in the order given."
-unfoldable pub unitGroups : Extent → Field → List OrientedBlockFace → List (List Point)
-unitGroups inner v faces = map (unitGroup inner v) faces
 
 -- How many numbers a listed unit quad has: "three numbers each".
 abbrev pub unitNumbers : ℕ

@@ -8,10 +8,11 @@ ghost use Prim.Native.Nat.{_<_};
 ghost use lib.ListN.{length};
 ghost use Rattle.geometry.specs.Refusal as refusal;
 ghost use Rattle.voxels.specs.Shape.{field};
-ghost use Rattle.voxels.specs.Listing as listing;
-ghost use Rattle.voxels.specs.Inner.{Entered, SoundAround, output, MadeGroups};
-ghost use Rattle.simple.specs.Unit.{unitNumbers, numbersOf, unitGroups, unitAnswer, outcome, visibleBlockFaces};
+ghost use Rattle.voxels.specs.Inner.{Entered, SoundAround, MadeGroups};
+ghost use Rattle.rules.specs.Unit.{unitGroups};
+ghost use Rattle.simple.specs.Unit.{unitNumbers, numbersOf, unitAnswer, outcome, visibleBlockFaces};
 ghost use Rattle.simple.specs.Inner.{Room, kernelStride, KernelOf, Starts, laidOutcome};
+ghost use Rattle.voxels.specs.Listing as listing;
 
 mod count;
 mod list;

@@ -1,7 +1,7 @@
 // What the numbers of a call stand for: permutations, corners, axes, points, quads and faces.
 ghost use mathlib.Core.Path.{_≡_};
 ghost use Prim.Native.Nat.{_<_};
-ghost use Rattle.geometry.specs.Refusal.{answer, checked};
+ghost use Rattle.geometry.specs.Refusal.{checked};
 ghost use Rattle.geometry.specs.Answers.{permutationMeaning, faceMeaning};
 ghost use Rattle.voxels.specs.Answers.{entryCheckMeaning};
 ghost use Rattle.spunmarrow.specs.Numbers.{pointOf, quadOf, faceOf, cornerOf, axisOf, cornerMeaning, axisMeaning};

@@ -31,3 +31,5 @@ pub mod Groups
 pub mod Times
 -- That each public contract leaves one outcome.
 pub mod Unique
+-- What an entry has passed, part by part.
+pub mod Passed

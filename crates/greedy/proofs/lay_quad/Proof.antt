@@ -2,7 +2,7 @@
 use borrow.Author.Needs.{needs}
 use mathlib.Core.Path.{_≡_}
 use native.Mathlib.Omega.{arith}
-use Rattle.greedy.specs.Merger.{pick}
+use Rattle.rules.specs.Merger.{pick}
 use Rattle.greedy.proofs.Loops.{pickedAt, picked-marked, picked-tests, laid-made}
 use Rattle.greedy.proofs.lay_quad.Statement.{statement}
 use Rattle.greedy.proofs.lay_quad.Tie as tie

@@ -5,11 +5,12 @@ use mathlib.Core.Path.{_≡_, refl, _∙_, ap}
 use Prim.Native.Nat.{_+_, _-_, _*_, _≤_}
 use native.Mathlib.Omega.{arith}
 use lib.ListN.{length, take, replicate}
-use Rattle.voxels.proofs.Groups.{all-after, groups-next, counts-next, groups-done, counts-done}
 use Rattle.voxels.specs.Inner.{mostVoxels, output, pushedAll}
 use Rattle.voxels.specs.Listing.{joined}
 use Rattle.voxels.specs.Shape.{field}
-use Rattle.greedy.specs.Greedy.{Listed, listedGroup, quadNumbers, numbersOf, greedyGroups, greedyTests}
+use Rattle.voxels.proofs.Groups.{all-after, groups-next, counts-next, groups-done, counts-done}
+use Rattle.rules.specs.Greedy.{greedyTests}
+use Rattle.greedy.specs.Greedy.{Listed, listedGroup, quadNumbers, numbersOf, listedGroups}
 use Rattle.greedy.specs.Inner.{voxelTests, SameFrom}
 use Rattle.greedy.proofs.Outcome.{noFace, tests-next, tests-done}
 use Rattle.greedy.proofs.mesh_faces.Statement.{statement}
@@ -83,7 +84,7 @@ same-length-2 : tie.Need-same-length-2 Inv-loop μ-loop
 same-length-2 c = c .before .loop .inv .3
 
 returns : tie.Need-returns Inv-loop μ-loop
-unfolding greedyGroups
+unfolding listedGroups
 returns c =
     let a = c .before .before .before .before .before .args in
     let l = c .before .loop in

@@ -5,10 +5,10 @@ use Prim.Native.Nat.{_+_, _-_, _*_, _≤_, _<_}
 use native.Mathlib.Nat.{zero-mul, sub-zero}
 use native.Mathlib.Omega.{arith}
 use lib.ListN.{getD}
-use Rattle.voxels.proofs.Places.{next-at}
 use Rattle.voxels.specs.Visible.{modulus}
+use Rattle.voxels.proofs.Places.{next-at}
+use Rattle.rules.specs.Merger.{walk}
 use Rattle.greedy.specs.Inner.{walkedRows, afterRows, stepBy, rowAt}
-use Rattle.greedy.specs.Merger.{walk}
 use Rattle.greedy.proofs.Walks.{first-row, first-voxel, first-step, next-row, rows-place, row-at-most, rows-on, rows-stop, rows-done, quad-from}
 use Rattle.greedy.proofs.merge_strategy.find_quad.Statement.{statement}
 use Rattle.greedy.proofs.merge_strategy.find_quad.Tie as tie

@@ -9,7 +9,7 @@ use Rattle.geometry.specs.Point.{Point, moved}
 use Rattle.geometry.specs.Axes.{uAxis, vAxis}
 use Rattle.voxels.specs.Voxel.{uniform}
 use Rattle.voxels.specs.Shape.{Field}
-use Rattle.greedy.specs.Group.{passes, Pick, Choice}
+use Rattle.rules.specs.Group.{passes, Pick, Choice}
 
 -- What a walk got, and its tests, "the failing one included".
 pub record Walked : Type 0 where

@@ -17,10 +17,10 @@ use Rattle.voxels.specs.Extent.{Inside, scan, inside, howMany}
 use Rattle.voxels.specs.Visible.{visible}
 use Rattle.voxels.proofs.Scan.{each-up, scan-inside}
 use Rattle.voxels.proofs.Times.{inside-true, inside-yes}
-use Rattle.greedy.specs.Group.{contains}
-use Rattle.greedy.specs.Demand.{covers, area, total, Cover, Areas, Consistent}
-use Rattle.greedy.proofs.Counts.{total-plus, total-same, total-none, total-bits}
-use Rattle.greedy.proofs.Contains.{contained-area}
+use Rattle.rules.specs.Group.{contains}
+use Rattle.rules.specs.Demand.{covers, area, sumOf, Cover, Areas, Consistent}
+use Rattle.rules.proofs.Counts.{sum-plus, sum-same, sum-none, sum-bits}
+use Rattle.rules.proofs.Contains.{contained-area}
 
 module _ (f : OrientedBlockFace) (v : Field) (inner : Extent) where
   -- A point that consistent quads cover is interior.
@@ -30,20 +30,20 @@ module _ (f : OrientedBlockFace) (v : Field) (inner : Extent) where
       (split (inside inner p) (λ t. t) (λ n. let none : ⊥ = omega (arith, h p, ap (λ (b : Bool). bit (b && visible f v p)) n) in absurd none))
 
   -- The areas of consistent quads count the points that they cover.
-  pub consistent-areas : (qs : List UnorientedQuad) → Consistent f v inner qs → total area qs ≡ total (covers f qs) (scan inner)
-  unfolding covers howMany total
-  consistent-areas [] h = sym (total-none (scan inner))
+  pub consistent-areas : (qs : List UnorientedQuad) → Consistent f v inner qs → sumOf area qs ≡ sumOf (covers f qs) (scan inner)
+  unfolding covers howMany sumOf
+  consistent-areas [] h = sym (sum-none (scan inner))
   consistent-areas (q ∷ qs) h =
       omega (
         arith,
         contained-area f q inner (λ p t. covered-inside (q ∷ qs) h p (omega (arith, ap bit t))),
         consistent-areas qs (λ p. omega (arith, h p)),
-        total-plus (λ (p : Point). bit (contains f q p)) (covers f qs) (scan inner),
+        sum-plus (λ (p : Point). bit (contains f q p)) (covers f qs) (scan inner),
       )
 
   -- So a cover has the areas.
   pub cover-areas : (qs : List UnorientedQuad) → Cover f v inner qs → Areas f v inner qs
   cover-areas qs h =
       consistent-areas qs (λ p. le-of-eq (h p))
-      ∙ total-same _ (λ (p : Point). bit (visible f v p)) (scan inner) (each-up (Inside inner) _ (λ p i. h p ∙ rw (inside-yes inner p i)) (scan inner) (scan-inside inner))
-      ∙ total-bits (visible f v) (scan inner)
+      ∙ sum-same _ (λ (p : Point). bit (visible f v p)) (scan inner) (each-up (Inside inner) _ (λ p i. h p ∙ rw (inside-yes inner p i)) (scan inner) (scan-inside inner))
+      ∙ sum-bits (visible f v) (scan inner)

@@ -1,11 +1,10 @@
--- Every greedy quad of an accepted call is within check 12's limits on its own face, so that nothing that the drawing code asks about it is refused; and its corners enclose exactly
--- the faces of the voxels that it contains.
+-- Where the entry checks pass every quad of every group is within check 12's limits on its own face, so that nothing that the drawing code asks about it is refused; and a quad's corners
+-- enclose exactly the faces of the voxels that it contains.
 use mathlib.Core.Bool.{true}
-use mathlib.Core.List.{List, _++_}
+use mathlib.Core.List.{List}
 use mathlib.Core.Path.{_≡_, sym, _∙_}
 use Prim.Native.Nat.{ℕ, _≤_}
 use native.Mathlib.Omega.{arith}
-use lib.ListN.{length}
 use Rattle.geometry.specs.declared.quad.UnorientedQuad.{UnorientedQuad}
 use Rattle.geometry.specs.declared.face.OrientedBlockFace.{OrientedBlockFace}
 use Rattle.geometry.specs.declared.face.Corner.{Corner}
@@ -18,48 +17,50 @@ use Rattle.geometry.specs.Statements.{unitQuadAt, Drawn}
 use Rattle.geometry.proofs.Limits.{bounds-limits}
 use Rattle.geometry.proofs.Corners.{farU, farV, corner-n, corner-u, corner-v}
 use Rattle.geometry.proofs.Drawn.{drawn}
-use Rattle.voxels.specs.Shape.{Field, field}
-use Rattle.voxels.specs.Extent.{interior, Each}
-use Rattle.voxels.specs.Checks.{boundsChecks, badFaces, fewVisited, badVoxels, greedyChecks}
-use Rattle.voxels.proofs.Orders.{both-pass}
-use Rattle.voxels.proofs.Scan.{each-up}
+use Rattle.voxels.specs.Shape.{Field}
+use Rattle.voxels.specs.Extent.{interior, Inside, scan, Each}
+use Rattle.voxels.specs.Visible.{visible}
+use Rattle.voxels.specs.Checks.{boundsChecks, badFaces}
+use Rattle.voxels.proofs.Scan.{each-up, each-those, scan-inside}
 use Rattle.voxels.proofs.Held.{max-below}
 use Rattle.voxels.proofs.Faces.{Proper, faces-proper}
-use Rattle.greedy.specs.Group.{contains}
-use Rattle.greedy.specs.Demand.{InSlice}
-use Rattle.greedy.specs.Drawn.{GroupDrawn, InRectangle, Encloses}
-use Rattle.greedy.proofs.Contains.{contains-true, contains-yes}
-use Rattle.greedy.proofs.Demand.{greedy-in-slice}
+use Rattle.rules.specs.Unit.{unitGroup}
+use Rattle.rules.specs.Group.{contains}
+use Rattle.rules.specs.Demand.{InSlice}
+use Rattle.rules.specs.Drawn.{GroupDrawn, UnitDrawn, InRectangle, Encloses}
+use Rattle.rules.proofs.Contains.{contains-true, contains-yes}
+use Rattle.rules.proofs.Unit.{unit-in-slice}
+use Rattle.rules.proofs.Demand.{greedy-in-slice}
 
 -- ---- drawn
 
--- Where checks 1 to 5 pass and a face's sign is proper,
-module _ (shape : Point) (lent : ℕ) (min max : Point) (passed : checked (boundsChecks lent shape min max) ≡ accepted tt) (f : OrientedBlockFace) (proper : Proper f) where
-  -- a quad within a slice of the interior can be drawn, whatever picked it,
-  pub slice-drawn : (q : UnorientedQuad) → InSlice f (interior min max) q → Drawn f q
-  slice-drawn q i =
+-- Where checks 1 to 5 pass and a face's sign is proper a quad within a slice of the interior can be drawn, whatever picked it.
+module _ (shape : Point) (lent : ℕ) (min max : Point) (passed : checked (boundsChecks lent shape min max) ≡ accepted tt) where
+  pub slice-drawn : (f : OrientedBlockFace) → Proper f → (q : UnorientedQuad) → InSlice f (interior min max) q → Drawn f q
+  slice-drawn f proper q i =
       drawn f q proper (bounds-limits f q (record {
         least = λ a. let lies = i .minimum-inside a in omega (arith, max-below shape lent min max passed a);
         wide = omega (arith, i .within-u, max-below shape lent min max passed (uAxis f));
         high = omega (arith, i .within-v, max-below shape lent min max passed (vAxis f));
       }) (i .some-width) (i .some-height))
 
-  -- and so can each of its greedy group.
-  pub greedy-group-drawn : (v : Field) → GroupDrawn (interior min max) v f
-  greedy-group-drawn v = each-up (InSlice f (interior min max)) (Drawn f) slice-drawn _ (greedy-in-slice f v (interior min max))
+  module _ (v : Field) (faces : List OrientedBlockFace) (signs : checked (badFaces faces) ≡ accepted tt) where
+    -- So where check 6 passes too every quad of every face's greedy group can be drawn,
+    pub greedy-drawn : Each (GroupDrawn (interior min max) v) faces
+    greedy-drawn =
+        each-up Proper (GroupDrawn (interior min max) v)
+        (λ f proper. each-up (InSlice f (interior min max)) (Drawn f) (slice-drawn f proper) _ (greedy-in-slice f v (interior min max)))
+        faces (faces-proper 0 faces signs)
 
--- Of a call whose entry checks pass every quad of every face's group can be drawn.
-pub greedy-drawn : (voxels : List ℕ) (shape min max : Point) (faces : List OrientedBlockFace) (visited : ℕ)
-    → checked (greedyChecks voxels shape min max faces visited) ≡ accepted tt
-    → Each (GroupDrawn (interior min max) (field shape voxels)) faces
-greedy-drawn voxels shape min max faces visited passed =
-    let bounds = boundsChecks (length voxels) shape min max in
-    let to-visited = both-pass (bounds ++ badFaces faces ++ fewVisited visited shape) (badVoxels voxels shape min max) passed in
-    let to-faces = both-pass (bounds ++ badFaces faces) (fewVisited visited shape) (to-visited .0) in
-    let parts = both-pass bounds (badFaces faces) (to-faces .0) in
-    each-up Proper (GroupDrawn (interior min max) (field shape voxels))
-    (λ f proper. greedy-group-drawn shape (length voxels) min max (parts .0) f proper (field shape voxels))
-    faces (faces-proper 0 faces (parts .1))
+    -- and every one of its unit group.
+    pub unit-drawn : Each (UnitDrawn (interior min max) v) faces
+    unfolding unitGroup
+    unit-drawn =
+        each-up Proper (UnitDrawn (interior min max) v)
+        (λ f proper.
+        each-those (λ (p : Point). Drawn f (unitQuadAt p)) (visible f v) (scan (interior min max))
+        (each-up (Inside (interior min max)) (λ (p : Point). Drawn f (unitQuadAt p)) (λ p i. slice-drawn f proper (unitQuadAt p) (unit-in-slice f (interior min max) p i)) _ (scan-inside (interior min max))))
+        faces (faces-proper 0 faces signs)
 
 -- ---- enclosed
 

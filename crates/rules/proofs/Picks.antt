@@ -18,10 +18,11 @@ use Rattle.geometry.proofs.Tests.{both-true}
 use Rattle.geometry.proofs.Frame.{moved-none, moved-moved}
 use Rattle.voxels.specs.Voxel.{mergeValue, uniform}
 use Rattle.voxels.specs.Shape.{Field}
-use Rattle.greedy.specs.Group.{passes, contains}
-use Rattle.greedy.specs.Merger.{Walked, follows, rowWalk, rowsWalk, voxelMerger}
-use Rattle.greedy.specs.Demand.{Uniform, quadOf, area, Admissible, Sound}
-use Rattle.greedy.proofs.Contains.{contains-true, reached}
+use Rattle.rules.specs.Group.{passes, contains, quadOf}
+use Rattle.rules.specs.Merger.{Walked, follows, rowWalk, rowsWalk, voxelMerger}
+use Rattle.rules.specs.Demand.{Uniform, area}
+use Rattle.rules.specs.Choices.{Sound, Admissible}
+use Rattle.rules.proofs.Contains.{contains-true, reached}
 
 module _ (f : OrientedBlockFace) (v : Field) (qs : List UnorientedQuad) (first : Point) where
   -- A row walk from p on of at most so many voxels.

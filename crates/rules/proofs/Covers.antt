@@ -12,16 +12,17 @@ use Rattle.geometry.specs.Point.{Point}
 use Rattle.geometry.specs.Axes.{nAxis, uAxis, vAxis, bit}
 use Rattle.geometry.proofs.Refusals.{split}
 use Rattle.geometry.proofs.Tests.{both-true}
-use Rattle.voxels.specs.declared.extent.Extent.{Extent}
 use Rattle.voxels.specs.Shape.{Field}
 use Rattle.voxels.specs.Extent.{Inside, Each, inside, howMany}
 use Rattle.voxels.specs.Visible.{visible}
 use Rattle.voxels.proofs.Scan.{each-append}
 use Rattle.voxels.proofs.Times.{inside-true}
-use Rattle.greedy.specs.Group.{sweep, passes, Choice, roomU, roomV, State, scanned, swept}
-use Rattle.greedy.specs.Demand.{covers, Cover, InSlice, Consistent, groupFrom, quadOf, Admissible, admit, Sound}
-use Rattle.greedy.proofs.Sweep.{sweep-inside, inside-sweep}
-use Rattle.greedy.proofs.Laid.{covers-more, fails-covered, sound-admitted, laid-in-slice, laid-contains, laid-consistent}
+use Rattle.rules.specs.Group.{sweep, passes, Choice, roomU, roomV, State, scanned, swept, quadOf}
+use Rattle.rules.specs.Demand.{covers, Cover, InSlice, Consistent}
+use Rattle.rules.specs.Choices.{Sound, groupFrom, Admissible, admit}
+use Rattle.rules.proofs.Sweep.{sweep-inside, inside-sweep}
+use Rattle.rules.proofs.Laid.{covers-more, fails-covered, sound-admitted, laid-in-slice, laid-contains, laid-consistent}
+use Rattle.voxels.specs.declared.extent.Extent.{Extent}
 
 -- An empty list is consistent.
 pub none-consistent : (f : OrientedBlockFace) (v : Field) (inner : Extent) → Consistent f v inner []

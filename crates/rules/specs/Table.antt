@@ -1,9 +1,9 @@
 -- Document 01's marked examples, E1 to E11, as one table: "Boxes cover the whole shape. Where one face is named, quads and tests are that face's. O7 is opaque, T7
 -- translucent, merge value 7; unnamed voxels are empty. Quads are (x,y,z,w,h)." That every row holds is `table-holds` (proofs/Table.antt).
 use mathlib.Core.Bool.{Bool, false}
-use mathlib.Core.List.{List, [], _∷_, map}
+use mathlib.Core.List.{List, [], _∷_}
 use mathlib.Core.Path.{_≡_}
-use Prim.Native.Nat.{ℕ, _+_, _-_, _*_}
+use Prim.Native.Nat.{ℕ, _+_, _-_}
 use lib.IntN.{pos}
 use lib.ListN.{replicate, set}
 use Rattle.geometry.specs.declared.axis.Axis.{Axis}
@@ -21,9 +21,8 @@ use Rattle.geometry.specs.Textures.{quadTextures}
 use Rattle.voxels.specs.declared.extent.Extent.{Extent}
 use Rattle.voxels.specs.Shape.{size, index, field}
 use Rattle.voxels.specs.Extent.{interior}
-use Rattle.greedy.specs.declared.GreedyAnswer.{GreedyAnswer}
-use Rattle.voxels.specs.Listing.{joined}
-use Rattle.greedy.specs.Greedy.{greedyGroup, greedyTests, listed, quadNumbers, numbersOf, GreedyOutcome, greedyQuads}
+use Rattle.rules.specs.Unit.{unitGroups}
+use Rattle.rules.specs.Greedy.{greedyGroups, greedyTests}
 
 -- ---- blocks
 
@@ -67,35 +66,34 @@ face a = canonicalFace a
 abbrev pub sixFaces : List OrientedBlockFace
 sixFaces = face PosX ∷ face NegX ∷ face PosY ∷ face NegY ∷ face PosZ ∷ face NegZ ∷ []
 
--- An example: a shape, a point and its index; a block, some faces and each one's quads; the same with the tests summed; a block, a capacity and all that a call with the six
--- faces answers; a face and a quad with its corners; and with its texture pairs, for a flip axis and a flip of v.
+-- An example: a shape, a point and its index; a block, some faces and each one's unit quads; greedy quads; the same with the tests summed; a face and a quad with its corners; and with its
+-- texture pairs, for a flip axis and a flip of v.
 pub data Example : Type 0 where
   indexed : Point → Point → ℕ → Example
+  listed : Point → List Placed → List OrientedBlockFace → List (List Point) → Example
   meshed : Point → List Placed → List OrientedBlockFace → List (List UnorientedQuad) → Example
   tested : Point → List Placed → List OrientedBlockFace → List (List UnorientedQuad) → ℕ → Example
-  called : Point → List Placed → ℕ → GreedyAnswer → List ℕ → Example
   cornered : OrientedBlockFace → UnorientedQuad → Point → Point → Point → Point → Example
   textured : OrientedBlockFace → UnorientedQuad → Axis → Bool → TexCoord → TexCoord → TexCoord → TexCoord → Example
 
+-- The unit quads of each face, by the rule of unit meshing.
+unfoldable pub minimaOf : Point → List Placed → List OrientedBlockFace → List (List Point)
+minimaOf shape ps faces = unitGroups (wholeInterior shape) (field shape (block shape ps)) faces
+
 -- The quads of each face, by the rule of greedy meshing.
 unfoldable pub quadsOf : Point → List Placed → List OrientedBlockFace → List (List UnorientedQuad)
-quadsOf shape ps faces = map (λ (f : OrientedBlockFace). greedyGroup (wholeInterior shape) (field shape (block shape ps)) f .quads) faces
+quadsOf shape ps faces = greedyGroups (wholeInterior shape) (field shape (block shape ps)) faces
 
 -- The tests of some faces, summed.
 unfoldable pub testsOf : Point → List Placed → List OrientedBlockFace → ℕ
 testsOf shape ps faces = greedyTests (wholeInterior shape) (field shape (block shape ps)) faces
 
--- A whole call over a block and the six faces, with visited bytes that hold 255 and an output for so many quads that holds 9.
-unfoldable pub call : Point → List Placed → ℕ → GreedyOutcome
-call shape ps capacity =
-    greedyQuads (block shape ps) shape (at 0 0 0) (at (shape .x - 1) (shape .y - 1) (shape .z - 1)) sixFaces (replicate (size shape) 255) (replicate (capacity * quadNumbers) 9)
-
 -- An example holds where the rules say what document 01 says.
 unfoldable pub Holds : Example → Type 0
 Holds (indexed shape p i) = index shape p ≡ i
+Holds (listed shape ps faces groups) = minimaOf shape ps faces ≡ groups
 Holds (meshed shape ps faces groups) = quadsOf shape ps faces ≡ groups
 Holds (tested shape ps faces groups tests) = (quadsOf shape ps faces ≡ groups) × (testsOf shape ps faces ≡ tests)
-Holds (called shape ps capacity answer out) = call shape ps capacity ≡ record { answer = answer; visitedBytes = replicate (size shape) 0; out = out }
 Holds (cornered f q a b c d) = quadCorners f q ≡ accepted (record { «minu_minv» = a; «maxu_minv» = b; «minu_maxv» = c; «maxu_maxv» = d })
 Holds (textured f q axis flip a b c d) = quadTextures f axis flip q ≡ accepted (record { «minu_minv» = a; «maxu_minv» = b; «minu_maxv» = c; «maxu_maxv» = d })
 
@@ -105,24 +103,13 @@ uv a b = record { u = asF32 (pos a); v = asF32 (pos b) }
 
 -- ---- the table
 
--- The numbers of quads, end to end.
-unfoldable pub numbersOfAll : List UnorientedQuad → List ℕ
-numbersOfAll quads = joined (map (λ (q : UnorientedQuad). numbersOf (listed q)) quads)
-
--- So many times (1,1,1,1,1) as a listing: E1's six quads, and its first five.
-abbrev pub ones : ℕ → List ℕ
-ones n = replicate (n * quadNumbers) 1
-
--- E1 to E11, with E1, E8 and E9 also as whole calls, and E12 ("E1 with capacity 5: refusal 9, place 5. Capacity 6 succeeds. All empty with capacity 0 succeeds.").
+-- E1 to E11. E1, E7 and E8 stand here of unit meshing too, which lists the minimum of each.
 unfoldable pub table : List Example
 table =
     -- E1
     indexed (at 3 3 3) (at 1 1 1) 13 ∷
     tested (at 3 3 3) (placed 1 1 1 (O 7) ∷ []) sixFaces (replicate 6 (quad 1 1 1 1 1 ∷ [])) 12 ∷
-    -- E1 and E12 as calls
-    called (at 3 3 3) (placed 1 1 1 (O 7) ∷ []) 6 (record { refusal = 0; place = 0; counts = replicate 6 1; tests = 12 }) (ones 6) ∷
-    called (at 3 3 3) (placed 1 1 1 (O 7) ∷ []) 5 (record { refusal = 9; place = 5; counts = replicate 6 0; tests = 0 }) (ones 5) ∷
-    called (at 3 3 3) [] 0 (record { refusal = 0; place = 0; counts = replicate 6 0; tests = 6 }) [] ∷
+    listed (at 3 3 3) (placed 1 1 1 (O 7) ∷ []) sixFaces (replicate 6 (at 1 1 1 ∷ [])) ∷
     -- E2
     tested (at 4 4 3) (placed 1 1 1 (O 7) ∷ []) (face PosZ ∷ []) ((quad 1 1 1 1 1 ∷ []) ∷ []) 7 ∷
     -- E3
@@ -135,13 +122,12 @@ table =
     tested (at 4 3 4) (placed 2 1 1 (O 7) ∷ placed 1 1 2 (O 7) ∷ placed 2 1 2 (O 7) ∷ []) (face PosY ∷ []) ((quad 2 1 1 2 1 ∷ quad 1 1 2 1 1 ∷ []) ∷ []) 8 ∷
     -- E7
     meshed (at 4 3 3) (placed 1 1 1 (T 7) ∷ placed 2 1 1 (T 7) ∷ []) (face PosX ∷ []) ((quad 2 1 1 1 1 ∷ []) ∷ []) ∷
+    listed (at 4 3 3) (placed 1 1 1 (T 7) ∷ placed 2 1 1 (T 7) ∷ []) (face PosX ∷ []) ((at 2 1 1 ∷ []) ∷ []) ∷
     -- E8
     meshed (at 4 3 3) (placed 1 1 1 (O 7) ∷ placed 2 1 1 (T 7) ∷ []) (face PosX ∷ face NegX ∷ []) ((quad 1 1 1 1 1 ∷ quad 2 1 1 1 1 ∷ []) ∷ (quad 1 1 1 1 1 ∷ []) ∷ []) ∷
+    listed (at 4 3 3) (placed 1 1 1 (O 7) ∷ placed 2 1 1 (T 7) ∷ []) (face PosX ∷ face NegX ∷ []) ((at 1 1 1 ∷ at 2 1 1 ∷ []) ∷ (at 1 1 1 ∷ []) ∷ []) ∷
     -- E9
     meshed (at 4 3 3) (placed 1 1 1 (O 7) ∷ placed 2 1 1 (T 7) ∷ []) (face PosZ ∷ []) ((quad 1 1 1 2 1 ∷ []) ∷ []) ∷
-    -- E8 and E9 as one call: +X and -X are E8's, +Z is E9's; on +Y and -Y, whose v is X, the two share a quad of height 2, and on -Z as on +Z
-    called (at 4 3 3) (placed 1 1 1 (O 7) ∷ placed 2 1 1 (T 7) ∷ []) 7 (record { refusal = 0; place = 0; counts = 2 ∷ 1 ∷ 1 ∷ 1 ∷ 1 ∷ 1 ∷ []; tests = 23 })
-    (numbersOfAll (quad 1 1 1 1 1 ∷ quad 2 1 1 1 1 ∷ quad 1 1 1 1 1 ∷ quad 1 1 1 1 2 ∷ quad 1 1 1 1 2 ∷ quad 1 1 1 2 1 ∷ quad 1 1 1 2 1 ∷ [])) ∷
     -- E10, on +X and on -X
     cornered (face PosX) (quad 1 2 3 4 5) (at 2 2 3) (at 2 6 3) (at 2 2 8) (at 2 6 8) ∷
     cornered (face NegX) (quad 1 2 3 4 5) (at 1 2 3) (at 1 6 3) (at 1 2 8) (at 1 6 8) ∷

@@ -8,18 +8,19 @@ use borrow.Author.Tests.{eqb-true, leb-true, ltb-true, eq-eqb, le-leb, lt-ltb}
 use Rattle.geometry.specs.declared.axis.Axis.{Axis}
 use Rattle.geometry.specs.declared.quad.UnorientedQuad.{UnorientedQuad}
 use Rattle.geometry.specs.declared.face.OrientedBlockFace.{OrientedBlockFace}
-use Rattle.geometry.specs.Point.{Point, along, moved}
+use Rattle.geometry.specs.Point.{Point, along}
 use Rattle.geometry.specs.Axes.{nAxis, uAxis, vAxis, bit}
 use Rattle.geometry.proofs.Tests.{both-true}
 use Rattle.geometry.proofs.Frame.{moved-on, moved-off, one-point, frame}
-use Rattle.voxels.specs.declared.extent.Extent.{Extent}
 use Rattle.voxels.specs.Extent.{Inside, scan, inside}
 use Rattle.voxels.proofs.Scan.{each-up, scan-inside}
 use Rattle.voxels.proofs.Times.{inside-true, inside-yes}
-use Rattle.greedy.specs.Group.{among, contains}
-use Rattle.greedy.specs.Demand.{area, total, points, voxelsOf}
-use Rattle.greedy.proofs.Spread.{spread, spread-n, spread-u, spread-v}
-use Rattle.greedy.proofs.Counts.{one-test, points-inside, span, scan-length}
+use Rattle.rules.specs.Group.{among, contains}
+use Rattle.rules.specs.Demand.{area, sumOf, points}
+use Rattle.rules.specs.Choices.{voxelsOf}
+use Rattle.rules.proofs.Spread.{spread, spread-n, spread-u, spread-v}
+use Rattle.rules.proofs.Counts.{one-test, points-inside, span, scan-length}
+use Rattle.voxels.specs.declared.extent.Extent.{Extent}
 
 module _ (f : OrientedBlockFace) (q : UnorientedQuad) where
   -- A point is in the quad, coordinate by coordinate.
@@ -111,8 +112,8 @@ module _ (f : OrientedBlockFace) (q : UnorientedQuad) where
       scan-length (voxelsOf f q) ∙ F .product (span (voxelsOf f q)) ∙ simp (bound-n, bound-u, bound-v, add-sub-cancel-left) (one-mul (area q))
 
   -- So of an extent's points the quad contains as many as its area, where it contains none outside.
-  pub contained-area : (e : Extent) → ((p : Point) → contains f q p ≡ true → Inside e p) → total (λ (p : Point). bit (contains f q p)) (scan e) ≡ area q
+  pub contained-area : (e : Extent) → ((p : Point) → contains f q p ≡ true → Inside e p) → sumOf (λ (p : Point). bit (contains f q p)) (scan e) ≡ area q
   contained-area e h =
-      ap (λ (test : Point → Bool). total (λ (p : Point). bit (test p)) (scan e)) (fun-ext contains-inside)
+      ap (λ (test : Point → Bool). sumOf (λ (p : Point). bit (test p)) (scan e)) (fun-ext contains-inside)
       ∙ points-inside e (voxelsOf f q) (each-up (Inside (voxelsOf f q)) (Inside e) (λ p i. h p (contains-yes p (voxels-in p i))) _ (scan-inside (voxelsOf f q)))
       ∙ voxels-area

@@ -12,9 +12,9 @@ use Rattle.geometry.proofs.Frame.{put-on, put-off, this-or-other, frame}
 use Rattle.voxels.specs.declared.extent.Extent.{Extent}
 use Rattle.voxels.specs.Extent.{Inside, scan, Each}
 use Rattle.voxels.proofs.Scan.{each-up, each-every, every-each, scan-inside, inside-scan}
-use Rattle.greedy.specs.Group.{sliceAt, sweep}
-use Rattle.greedy.specs.Demand.{points}
-use Rattle.greedy.proofs.Counts.{span, every-length, scan-length}
+use Rattle.rules.specs.Group.{sliceAt, sweep}
+use Rattle.rules.specs.Demand.{points}
+use Rattle.rules.proofs.Counts.{span, every-length, scan-length}
 
 module _ (a : Axis) (e : Extent) where
   -- A slice lies in the extent,

@@ -1,6 +1,6 @@
 -- Steps along a face's u and v from a point: its coordinates, its index, and that with the room for it it stays in an extent.
 use mathlib.Core.Path.{_≡_, _∙_, ap}
-use Prim.Native.Nat.{ℕ, _+_, _-_, _*_, _≤_, _<_}
+use Prim.Native.Nat.{ℕ, _+_, _*_, _≤_, _<_}
 use native.Mathlib.Omega.{arith}
 use Rattle.geometry.specs.declared.axis.Axis.{Axis}
 use Rattle.geometry.specs.declared.face.OrientedBlockFace.{OrientedBlockFace}
@@ -11,7 +11,7 @@ use Rattle.voxels.specs.declared.extent.Extent.{Extent}
 use Rattle.voxels.specs.Shape.{index, stride}
 use Rattle.voxels.specs.Extent.{Inside}
 use Rattle.voxels.proofs.Places.{index-moved}
-use Rattle.greedy.specs.Group.{roomU, roomV}
+use Rattle.rules.specs.Group.{roomU, roomV}
 
 module _ (f : OrientedBlockFace) where
   -- A point, i steps along u and j along v from another.

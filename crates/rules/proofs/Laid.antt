@@ -14,17 +14,18 @@ use Rattle.geometry.specs.Axes.{nAxis, uAxis, vAxis, bit}
 use Rattle.geometry.proofs.Refusals.{split}
 use Rattle.geometry.proofs.Tests.{both-true}
 use Rattle.geometry.proofs.Frame.{one-point, frame}
-use Rattle.voxels.specs.declared.extent.Extent.{Extent}
 use Rattle.voxels.specs.Shape.{Field}
 use Rattle.voxels.specs.Extent.{Inside, Each, inside, howMany}
 use Rattle.voxels.specs.Visible.{visible}
 use Rattle.voxels.proofs.Scan.{each-up, scan-inside, inside-scan}
 use Rattle.voxels.proofs.Times.{inside-yes}
-use Rattle.greedy.specs.Group.{contains, visited, passes, Pick, Choice, roomU, roomV}
-use Rattle.greedy.specs.Merger.{pick}
-use Rattle.greedy.specs.Demand.{covers, InSlice, Consistent, quadOf, Admissible, voxelsOf, allPass, admissible, admit, Sound}
-use Rattle.greedy.proofs.Counts.{howMany-append}
-use Rattle.greedy.proofs.Contains.{contains-true, contains-yes, in-voxels, voxels-in}
+use Rattle.rules.specs.Group.{contains, visited, passes, Pick, Choice, roomU, roomV, quadOf}
+use Rattle.rules.specs.Merger.{pick}
+use Rattle.rules.specs.Demand.{covers, InSlice, Consistent}
+use Rattle.rules.specs.Choices.{Sound, Admissible, voxelsOf, allPass, admissible, admit}
+use Rattle.rules.proofs.Counts.{howMany-append}
+use Rattle.rules.proofs.Contains.{contains-true, contains-yes, in-voxels, voxels-in}
+use Rattle.voxels.specs.declared.extent.Extent.{Extent}
 
 -- ---- covered and visited
 

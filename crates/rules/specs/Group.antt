@@ -56,6 +56,10 @@ pub record Pick : Type 0 where
   pub height : ℕ
   pub tests : ℕ
 
+-- The quad that a pick at a point gives.
+abbrev pub quadOf : Point → Pick → UnorientedQuad
+quadOf p c = record { minimum = p; width = c .width; height = c .height }
+
 -- What picks one, the Rust's `MergeStrategy` (merge_strategy.rs 9 to 41): from the quads that the group already has, at a point that passed the test, with so many voxels of
 -- room along u and so many along v.
 abbrev pub Choice : Type 0
@@ -83,7 +87,7 @@ scanned f v e choice s p =
       | false ↦ record { quads = s .quads; tests = s .tests + 1 }
       | true ↦
           let c : Pick = choice (s .quads) p (roomU f e p) (roomV f e p) in
-          record { quads = s .quads ++ (record { minimum = p; width = c .width; height = c .height } ∷ []); tests = s .tests + 1 + c .tests }
+          record { quads = s .quads ++ (quadOf p c ∷ []); tests = s .tests + 1 + c .tests }
     ]
 
 -- Points are scanned one after another.

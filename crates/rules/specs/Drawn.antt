@@ -1,5 +1,5 @@
--- Greedy quads and the drawing code. Every quad of an accepted call can be drawn (proofs/Drawn.antt, `greedy-drawn`), and the corners of a quad enclose exactly the faces of the voxels
--- that it contains (`encloses-exactly`): document 01, 'Greedy meshing' and 'Corners and vertex numbers'.
+-- What is listed and the drawing code: document 01, 'Unit meshing', 'Greedy meshing' and 'Corners and vertex numbers'. Where the entry checks pass every quad of every group can be drawn
+-- (proofs/Drawn.antt, `unit-drawn` and `greedy-drawn`), and the corners of a quad enclose exactly the faces of the voxels that it contains (`encloses-exactly`).
 use mathlib.Core.Path.{_≡_}
 use Prim.Native.Nat.{_≤_}
 use Rattle.geometry.specs.declared.quad.UnorientedQuad.{UnorientedQuad}
@@ -13,11 +13,16 @@ use Rattle.geometry.specs.Statements.{unitQuadAt, Drawn}
 use Rattle.voxels.specs.declared.extent.Extent.{Extent}
 use Rattle.voxels.specs.Shape.{Field}
 use Rattle.voxels.specs.Extent.{Each}
-use Rattle.greedy.specs.Greedy.{greedyGroup}
+use Rattle.rules.specs.Unit.{unitGroup}
+use Rattle.rules.specs.Greedy.{greedyGroup}
 
 -- Every quad of a face's group can be drawn: it is within the quad limits on that face, and nothing that the drawing code asks about it is refused.
 abbrev pub GroupDrawn : Extent → Field → OrientedBlockFace → Type 0
 GroupDrawn inner v f = Each (Drawn f) (greedyGroup inner v f .quads)
+
+-- The same of a face's unit group.
+abbrev pub UnitDrawn : Extent → Field → OrientedBlockFace → Type 0
+UnitDrawn inner v f = Each (λ (p : Point). Drawn f (unitQuadAt p)) (unitGroup inner v f)
 
 -- A point lies in the rectangle that a quad's corners are the corners of: on n it is where they are, and on u and v it is from the first corner to the last, which is opposite it. All
 -- four corners lie there (proofs/Drawn.antt, `own-corners`).

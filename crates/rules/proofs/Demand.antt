@@ -6,22 +6,23 @@ use Rattle.geometry.specs.declared.axis.SignedAxis.the-variants.{PosZ}
 use Rattle.geometry.specs.declared.face.OrientedBlockFace.{OrientedBlockFace}
 use Rattle.geometry.specs.Point.{at, along, put, moved}
 use Rattle.geometry.specs.Axes.{nAxis}
-use Rattle.voxels.specs.declared.extent.Extent.{Extent}
 use Rattle.voxels.specs.Voxel.{class, mergeValue, shows, uniform}
 use Rattle.voxels.specs.Shape.{Field, size, index, field}
 use Rattle.voxels.specs.Extent.{every, scan, Each, howMany}
 use Rattle.voxels.specs.Visible.{stepped, visible}
-use Rattle.greedy.specs.Group.{sliceAt, sweep, among, contains, visited, passes, Choice, roomU, roomV, State, scanned, swept, fresh, group}
-use Rattle.greedy.specs.Merger.{follows, rowWalk, rowsWalk, voxelMerger}
-use Rattle.greedy.specs.Greedy.{greedyGroup}
-use Rattle.greedy.specs.Demand.{total, Cover, Areas, Tests, points, visiblePoints, mostTests, DemandHolds, InSlice, Uniform, Consistent, groupFrom, admit}
-use Rattle.greedy.specs.Table.{O, placed, block, wholeInterior, face}
-use Rattle.greedy.proofs.Sweep.{sweep-inside, sweep-length}
-use Rattle.greedy.proofs.Laid.{admit-sound}
-use Rattle.greedy.proofs.Covers.{none-consistent, found-each, sound-cover, sound-in-slice, sound-same}
-use Rattle.greedy.proofs.Areas.{cover-areas}
-use Rattle.greedy.proofs.Picks.{walk-sound, walk-uniform}
-use Rattle.greedy.proofs.Bound.{sweep-cost}
+use Rattle.rules.specs.Group.{sliceAt, sweep, among, contains, visited, passes, Choice, roomU, roomV, State, scanned, swept, fresh, group}
+use Rattle.rules.specs.Merger.{follows, rowWalk, rowsWalk, voxelMerger}
+use Rattle.rules.specs.Greedy.{greedyGroup}
+use Rattle.rules.specs.Demand.{sumOf, Cover, Areas, Tests, points, visiblePoints, mostTests, DemandHolds, InSlice, Uniform, Consistent}
+use Rattle.rules.specs.Choices.{groupFrom, admit}
+use Rattle.rules.specs.Table.{O, placed, block, wholeInterior, face}
+use Rattle.rules.proofs.Sweep.{sweep-inside, sweep-length}
+use Rattle.rules.proofs.Laid.{admit-sound}
+use Rattle.rules.proofs.Covers.{none-consistent, found-each, sound-cover, sound-in-slice, sound-same}
+use Rattle.rules.proofs.Areas.{cover-areas}
+use Rattle.rules.proofs.Picks.{walk-sound, walk-uniform}
+use Rattle.rules.proofs.Bound.{sweep-cost}
+use Rattle.voxels.specs.declared.extent.Extent.{Extent}
 
 -- ---- any choice, any consistent start
 
@@ -54,7 +55,7 @@ module _ (f : OrientedBlockFace) (v : Field) (inner : Extent) where
   greedy-areas = cover-areas f v inner _ greedy-cover
 
   pub greedy-tests : Tests f v inner (greedyGroup inner v f .tests)
-  unfolding greedyGroup group total
+  unfolding greedyGroup group sumOf
   greedy-tests = omega (arith, sweep-cost f v inner fresh (sweep (nAxis f) inner) (sweep-inside (nAxis f) inner), sweep-length f inner, greedy-areas)
 
   -- Demand 3 holds.

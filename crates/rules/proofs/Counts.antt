@@ -15,45 +15,45 @@ use Rattle.voxels.specs.declared.extent.Extent.{Extent}
 use Rattle.voxels.specs.Extent.{Inside, every, scan, Each, inside, samePoint, times, howMany}
 use Rattle.voxels.proofs.Scan.{each-up}
 use Rattle.voxels.proofs.Times.{inside-yes, same-true, same-itself, scan-once}
-use Rattle.greedy.specs.Demand.{total, points}
+use Rattle.rules.specs.Demand.{sumOf, points}
 
 -- ---- sums
 
-pub total-append : {A : Type 0} (g : A → ℕ) (l m : List A) → total g (l ++ m) ≡ total g l + total g m
-unfolding total
-total-append g [] m = omega arith
-total-append g (a ∷ l) m = omega (arith, total-append g l m)
+pub sum-append : {A : Type 0} (g : A → ℕ) (l m : List A) → sumOf g (l ++ m) ≡ sumOf g l + sumOf g m
+unfolding sumOf
+sum-append g [] m = omega arith
+sum-append g (a ∷ l) m = omega (arith, sum-append g l m)
 
-pub total-plus : {A : Type 0} (g h : A → ℕ) (l : List A) → total (λ (a : A). g a + h a) l ≡ total g l + total h l
-unfolding total
-total-plus g h [] = refl
-total-plus g h (a ∷ l) = omega (arith, total-plus g h l)
+pub sum-plus : {A : Type 0} (g h : A → ℕ) (l : List A) → sumOf (λ (a : A). g a + h a) l ≡ sumOf g l + sumOf h l
+unfolding sumOf
+sum-plus g h [] = refl
+sum-plus g h (a ∷ l) = omega (arith, sum-plus g h l)
 
 -- Measures that agree at each of a list have one sum.
-pub total-same : {A : Type 0} (g h : A → ℕ) (l : List A) → Each (λ (a : A). g a ≡ h a) l → total g l ≡ total h l
-unfolding total Each
-total-same g h [] e = refl
-total-same g h (a ∷ l) e = omega (arith, e .0, total-same g h l (e .1))
+pub sum-same : {A : Type 0} (g h : A → ℕ) (l : List A) → Each (λ (a : A). g a ≡ h a) l → sumOf g l ≡ sumOf h l
+unfolding sumOf Each
+sum-same g h [] e = refl
+sum-same g h (a ∷ l) e = omega (arith, e .0, sum-same g h l (e .1))
 
-pub total-none : {A : Type 0} (l : List A) → total (λ (a : A). 0) l ≡ 0
-unfolding total
-total-none [] = refl
-total-none (a ∷ l) = omega (arith, total-none l)
+pub sum-none : {A : Type 0} (l : List A) → sumOf (λ (a : A). 0) l ≡ 0
+unfolding sumOf
+sum-none [] = refl
+sum-none (a ∷ l) = omega (arith, sum-none l)
 
 -- A sum of ones is the length,
-pub total-ones : {A : Type 0} (l : List A) → total (λ (a : A). 1) l ≡ length l
-unfolding total
-total-ones [] = refl
-total-ones (a ∷ l) = omega (arith, total-ones l)
+pub sum-ones : {A : Type 0} (l : List A) → sumOf (λ (a : A). 1) l ≡ length l
+unfolding sumOf
+sum-ones [] = refl
+sum-ones (a ∷ l) = omega (arith, sum-ones l)
 
 -- and how many pass a test is a sum.
-pub total-bits : {A : Type 0} (test : A → Bool) (l : List A) → total (λ (a : A). bit (test a)) l ≡ howMany test l
-unfolding total howMany
-total-bits test [] = refl
-total-bits test (a ∷ l) = omega (arith, total-bits test l)
+pub sum-bits : {A : Type 0} (test : A → Bool) (l : List A) → sumOf (λ (a : A). bit (test a)) l ≡ howMany test l
+unfolding sumOf howMany
+sum-bits test [] = refl
+sum-bits test (a ∷ l) = omega (arith, sum-bits test l)
 
 pub howMany-append : {A : Type 0} (test : A → Bool) (l m : List A) → howMany test (l ++ m) ≡ howMany test l + howMany test m
-howMany-append test l m = sym (total-bits test (l ++ m)) ∙ total-append _ l m ∙ omega (arith, total-bits test l, total-bits test m)
+howMany-append test l m = sym (sum-bits test (l ++ m)) ∙ sum-append _ l m ∙ omega (arith, sum-bits test l, sum-bits test m)
 
 -- ---- counted twice
 
@@ -68,22 +68,22 @@ same-back : (p q : Point) → samePoint p q ≡ samePoint q p
 same-back p q = one-test _ _ (λ t. rw (same-true p q t) (same-itself q)) (λ t. rw (same-true q p t) (same-itself p))
 
 -- How many times the points of one list stand in another is how many times those of the other stand in the one.
-pub times-swap : (l m : List Point) → total (λ (p : Point). times p m) l ≡ total (λ (q : Point). times q l) m
-unfolding total times
-times-swap [] m = sym (total-none m)
-times-swap (p ∷ l) m = omega (arith, times-swap l m, one m, total-plus (λ (q : Point). bit (samePoint q p)) (λ (q : Point). times q l) m)
+pub times-swap : (l m : List Point) → sumOf (λ (p : Point). times p m) l ≡ sumOf (λ (q : Point). times q l) m
+unfolding sumOf times
+times-swap [] m = sym (sum-none m)
+times-swap (p ∷ l) m = omega (arith, times-swap l m, one m, sum-plus (λ (q : Point). bit (samePoint q p)) (λ (q : Point). times q l) m)
   where
-    one : (m : List Point) → times p m ≡ total (λ (q : Point). bit (samePoint q p)) m
+    one : (m : List Point) → times p m ≡ sumOf (λ (q : Point). bit (samePoint q p)) m
     one [] = refl
     one (q ∷ m) = omega (arith, one m, ap bit (same-back p q))
 
 -- Of an extent's points as many lie in another as the other has, where those all lie in the first.
-pub points-inside : (e b : Extent) → Each (Inside e) (scan b) → total (λ (p : Point). bit (inside b p)) (scan e) ≡ points b
+pub points-inside : (e b : Extent) → Each (Inside e) (scan b) → sumOf (λ (p : Point). bit (inside b p)) (scan e) ≡ points b
 points-inside e b h =
-    ap (λ (g : Point → ℕ). total g (scan e)) (fun-ext (λ p. sym (scan-once p b)))
+    ap (λ (g : Point → ℕ). sumOf g (scan e)) (fun-ext (λ p. sym (scan-once p b)))
     ∙ times-swap (scan e) (scan b)
-    ∙ total-same _ (λ (p : Point). 1) (scan b) (each-up (Inside e) (λ (p : Point). times p (scan e) ≡ 1) (λ p i. scan-once p e ∙ ap bit (inside-yes e p i)) (scan b) h)
-    ∙ total-ones (scan b)
+    ∙ sum-same _ (λ (p : Point). 1) (scan b) (each-up (Inside e) (λ (p : Point). times p (scan e) ≡ 1) (λ p i. scan-once p e ∙ ap bit (inside-yes e p i)) (scan b) h)
+    ∙ sum-ones (scan b)
 
 -- ---- how many points an extent has
 

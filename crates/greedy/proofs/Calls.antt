@@ -1,0 +1,22 @@
+-- The examples hold as whole calls: each side of each is computed.
+use mathlib.Core.Path.{refl}
+use Rattle.geometry.specs.Refusal.{answer}
+use Rattle.geometry.specs.Point.{along, put, moved}
+use Rattle.geometry.specs.Axes.{same}
+use Rattle.geometry.specs.Checks.{properSign}
+use Rattle.voxels.specs.Voxel.{class, mergeValue, shows, uniform}
+use Rattle.voxels.specs.Shape.{size, index, field}
+use Rattle.voxels.specs.Extent.{every, scan, Each}
+use Rattle.voxels.specs.Checks.{boundsChecks, badAxis, badFacesFrom, badVoxels}
+use Rattle.voxels.specs.Listing.{joined, overwritten, capacity, lay}
+use Rattle.voxels.specs.Visible.{stepped, visible}
+use Rattle.rules.specs.Group.{sliceAt, sweep, among, contains, visited, passes, scanned, swept, group}
+use Rattle.rules.specs.Merger.{follows, rowWalk, rowsWalk, voxelMerger}
+use Rattle.rules.specs.Greedy.{greedyGroup, greedyTests}
+use Rattle.rules.specs.Table.{block}
+use Rattle.greedy.specs.Greedy.{listedGroups, greedyQuads}
+use Rattle.greedy.specs.Calls.{call, CallIs, numbersOfAll, calls}
+
+pub calls-hold : Each CallIs calls
+unfolding calls Each CallIs numbersOfAll call block greedyQuads listedGroups lay joined overwritten capacity boundsChecks badAxis badFacesFrom badVoxels greedyGroup greedyTests group swept scanned passes visited contains among sweep sliceAt voxelMerger rowsWalk rowWalk follows visible stepped scan every field index size class mergeValue shows uniform along put moved answer properSign same
+calls-hold = (refl, (refl, (refl, (refl, tt))))
