@@ -19,9 +19,9 @@ use Rattle.voxels.specs.Shape.{index, Field, field}
 use Rattle.voxels.specs.Extent.{box, interior, scan, Each, inside, howMany}
 use Rattle.voxels.specs.Visible.{visible}
 use Rattle.voxels.specs.Checks.{badFacesFrom, badFaces, fewVisited, badVoxelAt, badVoxels, boundsChecks, greedyChecks}
-use Rattle.voxels.specs.Listing.{joined, overwritten, capacity, lay, atExit}
+use Rattle.listing.specs.Listing.{joined, overwritten, capacity, lay, atExit}
 use Rattle.voxels.proofs.Scan.{each-append, each-up}
-use Rattle.voxels.proofs.Pushed.{lay-many, lay-fits}
+use Rattle.listing.proofs.Pushed.{lay-many, lay-fits}
 use Rattle.voxels.proofs.Passed.{greedy-passed}
 use Rattle.voxels.proofs.Lowest.{refused-number, not-both}
 use Rattle.rules.specs.Group.{contains}

@@ -8,7 +8,7 @@ use Rattle.voxels.specs.Voxel.{class, mergeValue, shows, uniform}
 use Rattle.voxels.specs.Shape.{size, index, field}
 use Rattle.voxels.specs.Extent.{every, scan, Each}
 use Rattle.voxels.specs.Checks.{boundsChecks, badAxis, badFacesFrom, badVoxels}
-use Rattle.voxels.specs.Listing.{joined, overwritten, capacity, lay}
+use Rattle.listing.specs.Listing.{joined, overwritten, capacity, lay}
 use Rattle.voxels.specs.Visible.{stepped, visible}
 use Rattle.rules.specs.Group.{sliceAt, sweep, among, contains, visited, passes, scanned, swept, group}
 use Rattle.rules.specs.Merger.{follows, rowWalk, rowsWalk, voxelMerger}

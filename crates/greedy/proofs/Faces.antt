@@ -18,7 +18,7 @@ use Rattle.geometry.proofs.Frame.{frame}
 use Rattle.voxels.specs.Shape.{size, index, stride, field}
 use Rattle.voxels.specs.Extent.{Inside}
 use Rattle.voxels.specs.Visible.{modulus, visibilityOffset}
-use Rattle.voxels.specs.Listing.{overwritten}
+use Rattle.listing.specs.Listing.{overwritten}
 use Rattle.voxels.specs.Inner.{mostVoxels, Entered, output, pushedAll}
 use Rattle.voxels.proofs.Places.{index-below}
 use Rattle.voxels.proofs.Entered.{below, entered-stride, minimum-index, bound-within, bound-small, inner-in-shape, inner-beyond}

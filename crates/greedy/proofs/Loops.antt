@@ -10,10 +10,10 @@ use lib.ListN.{length, getD, drop, replicate, length-replicate}
 use Rattle.geometry.specs.Point.{Point}
 use Rattle.geometry.proofs.Refusals.{split}
 use Rattle.voxels.specs.Inner.{longest, Output, output, pushed}
-use Rattle.voxels.specs.Listing.{overwritten}
+use Rattle.listing.specs.Listing.{overwritten}
 use Rattle.voxels.proofs.Asked.{more, done}
 use Rattle.voxels.proofs.Places.{next-at, below-last}
-use Rattle.voxels.proofs.Pushed.{pushed-counts}
+use Rattle.listing.proofs.Pushed.{pushed-counts}
 use Rattle.rules.specs.Group.{Pick}
 use Rattle.rules.specs.Merger.{Walked}
 use Rattle.greedy.specs.Greedy.{listed, quadNumbers, numbersOf}

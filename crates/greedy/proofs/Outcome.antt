@@ -15,13 +15,13 @@ use Rattle.geometry.specs.Refusal.{accepted, refused, Check, answer}
 use Rattle.geometry.proofs.Refusals.{accepts-value, accepts-checked, first-passes}
 use Rattle.voxels.specs.Shape.{size, Field, field}
 use Rattle.voxels.specs.Checks.{greedyChecks}
-use Rattle.voxels.specs.Listing.{overwritten, capacity, lay}
+use Rattle.listing.specs.Listing.{overwritten, capacity, lay}
 use Rattle.voxels.specs.Answers.{entry}
 use Rattle.voxels.proofs.Orders.{answer-refused}
 use Rattle.voxels.proofs.Passed.{greedy-passed}
 use Rattle.voxels.proofs.Held.{bounds-held}
 use Rattle.voxels.proofs.Entered.{interior-is}
-use Rattle.voxels.proofs.Groups.{take-next, laid-many, laid-counts, laid-out}
+use Rattle.listing.proofs.Groups.{take-next, laid-many, laid-counts, laid-out}
 use Rattle.rules.specs.Greedy.{greedyGroup, greedyTests}
 use Rattle.greedy.specs.Greedy.{Listed, quadNumbers, numbersOf, greedyAnswer, GreedyOutcome, outcome, greedyQuads, listedGroups}
 use Rattle.greedy.specs.Inner.{Accepted, MadeFaces, laidOutcome}

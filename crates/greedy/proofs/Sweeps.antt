@@ -19,8 +19,8 @@ use Rattle.voxels.specs.Inner.{Entered, Output, pushed, pushedAll}
 use Rattle.voxels.proofs.Places.{index-at, index-below}
 use Rattle.voxels.proofs.Scan.{each-same, inside-at}
 use Rattle.voxels.proofs.Entered.{inner-in-shape}
-use Rattle.voxels.proofs.Pushed.{pushed-append}
-use Rattle.voxels.proofs.Groups.{map-one-more}
+use Rattle.listing.proofs.Pushed.{pushed-append}
+use Rattle.listing.proofs.Groups.{map-one-more}
 use Rattle.rules.specs.Group.{sliceAt, sweep, passes, Choice, State, scanned, swept, fresh, group, Pick, roomU, roomV, quadOf}
 use Rattle.rules.specs.Merger.{voxelMerger}
 use Rattle.rules.specs.Greedy.{greedyGroup}

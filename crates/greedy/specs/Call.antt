@@ -10,7 +10,7 @@ use Rattle.geometry.specs.Point.{Point, at}
 use Rattle.geometry.specs.Statements.{Drawn}
 use Rattle.voxels.specs.Shape.{Field, field}
 use Rattle.voxels.specs.Extent.{interior, Each}
-use Rattle.voxels.specs.Listing.{joined, capacity}
+use Rattle.listing.specs.Listing.{joined, capacity}
 use Rattle.rules.specs.Greedy.{greedyGroup, greedyGroups, greedyTests}
 use Rattle.rules.specs.Demand.{Cover, Areas, Tests, Consistent}
 use Rattle.greedy.specs.Greedy.{quadNumbers}

@@ -7,7 +7,7 @@ use lib.ListN.{replicate}
 use Rattle.geometry.specs.declared.quad.UnorientedQuad.{UnorientedQuad}
 use Rattle.geometry.specs.Point.{Point, at}
 use Rattle.voxels.specs.Shape.{size}
-use Rattle.voxels.specs.Listing.{joined}
+use Rattle.listing.specs.Listing.{joined}
 use Rattle.rules.specs.Table.{O, T, Placed, placed, block, quad, sixFaces}
 use Rattle.greedy.specs.declared.GreedyAnswer.{GreedyAnswer}
 use Rattle.greedy.specs.Greedy.{listed, quadNumbers, numbersOf, GreedyOutcome, greedyQuads}

@@ -10,7 +10,7 @@ use Rattle.voxels.specs.declared.extent.Extent.{Extent}
 use Rattle.voxels.specs.Shape.{size, Field, field}
 use Rattle.voxels.specs.Extent.{interior}
 use Rattle.voxels.specs.Checks.{greedyChecks}
-use Rattle.voxels.specs.Listing.{overwritten, Laid, lay, atExit}
+use Rattle.listing.specs.Listing.{overwritten, Laid, lay, atExit}
 use Rattle.greedy.specs.declared.GreedyAnswer.{GreedyAnswer}
 use Rattle.rules.specs.Greedy.{greedyGroup, greedyTests}
 

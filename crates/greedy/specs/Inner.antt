@@ -13,7 +13,7 @@ use Rattle.geometry.specs.Axes.{positive, axesOf, nAxis, uAxis, vAxis}
 use Rattle.voxels.specs.Voxel.{shows, uniform}
 use Rattle.voxels.specs.Shape.{size, stride}
 use Rattle.voxels.specs.Visible.{modulus, visibilityOffset, offsetIndex}
-use Rattle.voxels.specs.Listing.{Laid}
+use Rattle.listing.specs.Listing.{Laid}
 use Rattle.voxels.specs.Inner.{mostVoxels, longest, Entered, Output, output, pushed, pushedAll, MadeGroups}
 use Rattle.rules.specs.Group.{Pick}
 use Rattle.rules.specs.Merger.{Walked}

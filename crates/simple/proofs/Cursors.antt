@@ -6,9 +6,10 @@ use native.Mathlib.Nat.{add-zero, add-assoc, sub-zero}
 use native.Mathlib.Omega.{arith}
 use lib.ListN.{length, getD, set, length-append}
 use Rattle.geometry.specs.Point.{Point}
-use Rattle.voxels.specs.Inner.{inStep, Output, output, pushed, pushedAll}
+use Rattle.voxels.specs.Inner.{inStep}
 use Rattle.voxels.proofs.Asked.{more, done}
-use Rattle.voxels.proofs.Pushed.{pushed-counts}
+use Rattle.listing.specs.Pushed.{Output, output, pushed, pushedAll}
+use Rattle.listing.proofs.Pushed.{pushed-counts}
 use Rattle.simple.specs.Unit.{unitNumbers, numbersOf}
 use Rattle.simple.specs.Inner.{laidRun, laidRuns, Apart, Listed}
 use Rattle.simple.proofs.Totals.{in-step-length}

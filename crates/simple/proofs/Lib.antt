@@ -19,9 +19,9 @@ pub mod Faces
 pub mod Soundness
 -- From the loops to the groups.
 pub mod Whole
--- From the groups to the answer.
-pub mod Laid
 -- From the entry to the whole outcome.
 pub mod Outcome
 -- That the public contract leaves one outcome.
 pub mod Unique
+-- What a call leaves.
+pub mod Call

@@ -1,15 +1,14 @@
 -- From the entry to the whole outcome: what a refused entry leaves, what an accepted one is known to be, and what it leaves.
 use mathlib.Core.List.{List}
-use mathlib.Core.Path.{_≡_, _∙_}
+use mathlib.Core.Path.{_≡_, refl, sym, _∙_, ap}
 use Prim.Native.Nat.{ℕ, _<_}
 use lib.ListN.{length, getD}
 use Rattle.geometry.specs.declared.face.OrientedBlockFace.{OrientedBlockFace}
-use Rattle.geometry.specs.Point.{Point}
 use Rattle.geometry.specs.Refusal.{accepted, refused, Check, answer}
+use Rattle.geometry.specs.Point.{Point}
 use Rattle.geometry.proofs.Refusals.{accepts-checked}
 use Rattle.voxels.specs.Shape.{field}
 use Rattle.voxels.specs.Checks.{unitChecks}
-use Rattle.voxels.specs.Listing.{lay}
 use Rattle.voxels.specs.Answers.{entry}
 use Rattle.voxels.specs.Inner.{Entered, SoundAround}
 use Rattle.voxels.proofs.Orders.{answer-refused}
@@ -17,21 +16,28 @@ use Rattle.voxels.proofs.Passed.{Passed, unit-passed}
 use Rattle.voxels.proofs.Held.{bounds-held}
 use Rattle.voxels.proofs.Entered.{interior-is}
 use Rattle.voxels.proofs.Lowest.{sound-around}
+use Rattle.listing.specs.Listing.{lay}
+use Rattle.listing.specs.Outcome.{meshAnswer, MeshOutcome, outcome, listedOutcome}
+use Rattle.listing.proofs.Outcome.{entry-refused, entry-passed}
 use Rattle.rules.specs.Unit.{unitGroups}
-use Rattle.simple.specs.Unit.{unitNumbers, numbersOf, unitAnswer, UnitOutcome, outcome, visibleBlockFaces}
-use Rattle.simple.specs.Inner.{laidOutcome}
+use Rattle.simple.specs.Unit.{unitNumbers, numbersOf, unitFrom, visibleBlockFaces}
 use Rattle.voxels.specs.declared.bounds.Entry.{Entry}
-use Rattle.simple.specs.declared.UnitAnswer.{UnitAnswer}
+use Rattle.listing.specs.declared.MeshAnswer.{MeshAnswer}
+
+-- A unit quad has three numbers.
+pub three : (p : Point) → length (numbersOf p) ≡ unitNumbers
+three p = refl
 
 module _ (voxels : List ℕ) (shape min max : Point) (faces : List OrientedBlockFace) where
   abbrev checks : List Check
   checks = unitChecks voxels shape min max faces
 
   -- A refused entry leaves the output as it was.
-  pub refused-outcome : (out : List ℕ) (r : UnitAnswer) {n p : ℕ} → answer checks (entry shape min max) ≡ refused n p → r ≡ unitAnswer (refused n p)
+  pub refused-outcome : (out : List ℕ) (r : MeshAnswer) {n p : ℕ} → answer checks (entry shape min max) ≡ refused n p → r ≡ meshAnswer (refused n p)
       → outcome r out ≡ visibleBlockFaces voxels shape min max faces out
-  unfolding visibleBlockFaces
-  refused-outcome out r e is = rw (answer-refused checks (entry shape min max) e, is)
+  unfolding visibleBlockFaces unitFrom
+  refused-outcome out r e is =
+      ap (λ (a : MeshAnswer). outcome a out) is ∙ ap listedOutcome (sym (entry-refused unitNumbers numbersOf _ out (answer-refused checks (entry shape min max) e)))
 
   module _ (e : Entry) (enters : answer checks (entry shape min max) ≡ accepted e) where
     -- An accepted entry has passed its checks,
@@ -47,7 +53,8 @@ module _ (voxels : List ℕ) (shape min max : Point) (faces : List OrientedBlock
     is-sound small = rw (interior-is checks shape min max enters) (sound-around shape (length voxels) min max (bounds-held shape (length voxels) min max (passed .bounds)) voxels (passed .sound) small)
 
     -- It leaves what laying the groups leaves.
-    pub entered-outcome : (out : List ℕ) {o : UnitOutcome} → o ≡ laidOutcome (lay unitNumbers numbersOf (unitGroups (e .interior) (field shape voxels) faces) out)
+    pub entered-outcome : (out : List ℕ) {o : MeshOutcome} → o ≡ listedOutcome (lay unitNumbers numbersOf (unitGroups (e .interior) (field shape voxels) faces) out)
         → o ≡ visibleBlockFaces voxels shape min max faces out
-    unfolding visibleBlockFaces
-    entered-outcome out h = h ∙ rw (accepts-checked checks (entry shape min max) enters, interior-is checks shape min max enters)
+    unfolding visibleBlockFaces unitFrom
+    entered-outcome out h =
+        h ∙ rw (interior-is checks shape min max enters) (ap listedOutcome (sym (entry-passed unitNumbers numbersOf _ out (accepts-checked checks (entry shape min max) enters))))

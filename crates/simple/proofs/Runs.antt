@@ -10,18 +10,19 @@ use lib.Seq.{set-comm}
 use borrow.Author.Tests.{ltb-true, ltb-false, eqb-true, eqb-false}
 use Rattle.geometry.specs.Point.{Point}
 use Rattle.geometry.proofs.Refusals.{split}
-use Rattle.voxels.specs.Listing.{joined, capacity}
-use Rattle.voxels.specs.Inner.{setAll, Output, output, pushed, pushedAll}
-use Rattle.voxels.proofs.Pushed.{pushed-append, pushed-counts, pushed-room, pushed-full}
-use Rattle.voxels.proofs.Groups.{all-counted, groups-next, groups-done}
+use Rattle.listing.specs.Listing.{joined, capacity}
+use Rattle.listing.specs.Pushed.{setAll, Output, output, pushed, pushedAll}
+use Rattle.listing.proofs.Pushed.{set-all-length, pushed-append, pushed-counts, pushed-room, pushed-full}
+use Rattle.listing.proofs.Groups.{all-counted, groups-next, groups-done}
 use Rattle.simple.specs.Unit.{unitNumbers, numbersOf}
 use Rattle.simple.specs.Inner.{laidRun, laidRuns, Apart, Listed}
-use Rattle.simple.proofs.Laid.{three}
+use Rattle.simple.proofs.Outcome.{three}
 
 -- ---- writing at two places
 
 -- A number set past a list's numbers may be set before them.
 set-past : (xs out : List ℕ) (k j b : ℕ) → k + length xs ≤ j → setAll (set out j b) k xs ≡ set (setAll out k xs) j b
+unfolding setAll
 set-past [] out k j b h = refl
 set-past (x ∷ xs) out k j b h =
     rw (set-comm out j k b x (λ e. omega (arith, e)))
@@ -29,14 +30,10 @@ set-past (x ∷ xs) out k j b h =
 
 -- So may a list's.
 set-all-past : (ys xs out : List ℕ) (k j : ℕ) → k + length xs ≤ j → setAll (setAll out j ys) k xs ≡ setAll (setAll out k xs) j ys
+unfolding setAll
 set-all-past [] xs out k j h = refl
 set-all-past (y ∷ ys) xs out k j h =
     rw (← set-past xs out k j y h) (set-all-past ys xs (set out j y) k (j + 1) (omega arith))
-
--- Setting keeps the length.
-set-all-length : (xs out : List ℕ) (k : ℕ) → length (setAll out k xs) ≡ length out
-set-all-length [] out k = refl
-set-all-length (x ∷ xs) out k = set-all-length xs (set out k x) (k + 1) ∙ length-set out k x
 
 module _ {A : Type 0} (numbers : ℕ) (numbersOf : A → List ℕ) (sized : (a : A) → length (numbersOf a) ≡ numbers) where
   -- The buffer after an item was listed at a place: it is written where there is room, and else nothing is.

@@ -15,8 +15,9 @@ use Rattle.geometry.proofs.Refusals.{split}
 use Rattle.voxels.specs.Shape.{index, stride, field}
 use Rattle.voxels.specs.Extent.{interior}
 use Rattle.voxels.specs.Visible.{modulus}
-use Rattle.voxels.specs.Inner.{mostVoxels, Entered, SoundAround, output, MadeGroups}
+use Rattle.voxels.specs.Inner.{mostVoxels, Entered, SoundAround}
 use Rattle.voxels.proofs.Entered.{minimum-index, entered-stride}
+use Rattle.listing.specs.Pushed.{output, MadeGroups}
 use Rattle.rules.specs.Unit.{unitGroup, unitGroups}
 use Rattle.simple.specs.Unit.{unitNumbers, numbersOf}
 use Rattle.simple.specs.Inner.{slicesQuads, slicesShown, offsetOf, SlicesReady, EachFace, Room, SlicesSound, Apart, Counted, Listed, kernelStride, noFace, KernelOf, startOf, Starts}

@@ -11,11 +11,11 @@ use Rattle.geometry.specs.Point.{Point, at}
 use Rattle.geometry.specs.Axes.{bit, positive, nAxis}
 use Rattle.voxels.specs.declared.index.Stride.{Stride}
 use Rattle.voxels.specs.Voxel.{class, shows}
-use Rattle.voxels.specs.Listing.{Laid}
 use Rattle.voxels.specs.Shape.{stride}
 use Rattle.voxels.specs.Visible.{modulus, visibilityOffset, offsetIndex}
-use Rattle.voxels.specs.Inner.{mostVoxels, longest, keptIf, inStep, output, pushedAll}
-use Rattle.simple.specs.Unit.{unitNumbers, numbersOf, unitAnswer, UnitOutcome, outcome}
+use Rattle.voxels.specs.Inner.{mostVoxels, longest, keptIf, inStep}
+use Rattle.listing.specs.Pushed.{output, pushedAll}
+use Rattle.simple.specs.Unit.{unitNumbers, numbersOf}
 
 -- What stands past the end of a list of faces.
 abbrev pub noFace : OrientedBlockFace
@@ -179,7 +179,3 @@ pub record Starts (counts cursors : List ℕ) (end : ℕ) : Type 0 where
 pub record Listed (was cursors : List ℕ) (quads : ℕ → List Point) (out now : List ℕ) : Type 0 where
   pub is : out ≡ laidRuns was (λ (f : ℕ). getD cursors f 0) quads 6
   pub moved : Counted cursors now (λ (f : ℕ). length (quads f))
-
--- The outcome of what laying leaves.
-abbrev pub laidOutcome : Laid → UnitOutcome
-laidOutcome laid = outcome (unitAnswer (laid .answer)) (laid .out)

@@ -6,13 +6,14 @@
 ghost use mathlib.Core.Path.{_≡_};
 ghost use Prim.Native.Nat.{_<_};
 ghost use lib.ListN.{length};
-ghost use Rattle.geometry.specs.Refusal as refusal;
 ghost use Rattle.voxels.specs.Shape.{field};
-ghost use Rattle.voxels.specs.Inner.{Entered, SoundAround, MadeGroups};
+ghost use Rattle.voxels.specs.Inner.{Entered, SoundAround};
+ghost use Rattle.listing.specs.Listing as rule;
+ghost use Rattle.listing.specs.Pushed.{MadeGroups};
+ghost use Rattle.listing.specs.Outcome.{outcome, listedOutcome};
 ghost use Rattle.rules.specs.Unit.{unitGroups};
-ghost use Rattle.simple.specs.Unit.{unitNumbers, numbersOf, unitAnswer, outcome, visibleBlockFaces};
-ghost use Rattle.simple.specs.Inner.{Room, kernelStride, KernelOf, Starts, laidOutcome};
-ghost use Rattle.voxels.specs.Listing as listing;
+ghost use Rattle.simple.specs.Unit.{unitNumbers, numbersOf, visibleBlockFaces};
+ghost use Rattle.simple.specs.Inner.{Room, kernelStride, KernelOf, Starts};
 
 mod count;
 mod list;
@@ -20,22 +21,12 @@ mod list;
 use geometry::axis::Axis;
 use geometry::face::OrientedBlockFace;
 use geometry::vector::UVec3;
+use listing::MeshAnswer;
 use voxels::bounds;
 use voxels::bounds::EntryAnswer;
 use voxels::extent::Extent;
 use voxels::index::Stride;
 use voxels::index::VoxelIndex;
-use voxels::refusal;
-
-// What unit meshing answers.
-pub struct UnitAnswer {
-    // The refusal number, or 0 where the call was accepted.
-    pub refusal: u32,
-    // The refusal's place, or 0.
-    pub place: u64,
-    // How many quads each of the six groups has. All are 0 where the call was refused.
-    pub counts: [u64; 6],
-}
 
 // What leads from a voxel to the one that shares a face.
 fn kernel_stride(voxels_shape: UVec3, face: OrientedBlockFace) -> Stride
@@ -93,7 +84,7 @@ fn mesh_faces(
     interior: Extent,
     faces: [OrientedBlockFace; 6],
 ) -> Meshed
-    requires { ⌜ capacity ≡ listing.capacity unitNumbers (length (now out)) ⌝ }
+    requires { ⌜ capacity ≡ rule.capacity unitNumbers (length (now out)) ⌝ }
     requires { ⌜ Entered (length (now voxels)) «voxels_shape» interior ⌝ }
     requires { ⌜ SoundAround (now voxels) «voxels_shape» interior ⌝ }
     ensures { λ r. ⌜ MadeGroups unitNumbers numbersOf (unitGroups interior (field «voxels_shape» (now (voxels .entry))) faces) (now (out .entry)) (now (out .exit)) (r .listed) (r .counts) ⌝ }
@@ -143,18 +134,6 @@ fn mesh_faces(
     Meshed { listed, counts }
 }
 
-// A refused call's answer.
-fn refused(number: u32, place: u64) -> UnitAnswer
-    ensures { λ r. ⌜ r ≡ unitAnswer (refusal.refused number place) ⌝ }
-{
-    let counts = [0u64; 6];
-    UnitAnswer {
-        refusal: number,
-        place,
-        counts,
-    }
-}
-
 // The answer of an accepted call, and what it lists.
 fn mesh(
     voxels: &[u16],
@@ -162,23 +141,15 @@ fn mesh(
     interior: Extent,
     faces: [OrientedBlockFace; 6],
     out: &mut [u32],
-) -> UnitAnswer
+) -> MeshAnswer
     requires { ⌜ Entered (length (now voxels)) «voxels_shape» interior ⌝ }
     requires { ⌜ SoundAround (now voxels) «voxels_shape» interior ⌝ }
-    ensures { λ r. ⌜ outcome r (now (out .exit)) ≡ laidOutcome (listing.lay unitNumbers numbersOf (unitGroups interior (field «voxels_shape» (now (voxels .entry))) faces) (now (out .entry))) ⌝ }
+    ensures { λ r. ⌜ outcome r (now (out .exit)) ≡ listedOutcome (rule.lay unitNumbers numbersOf (unitGroups interior (field «voxels_shape» (now (voxels .entry))) faces) (now (out .entry))) ⌝ }
 {
     let capacity = out.len() / 3;
     let meshed = mesh_faces(voxels, out, capacity, voxels_shape, interior, faces);
-    let listed = meshed.listed;
-    if capacity < listed {
-        return refused(refusal::MANY_QUADS, capacity as u64);
-    }
     let counts = meshed.counts;
-    UnitAnswer {
-        refusal: 0,
-        place: 0,
-        counts,
-    }
+    listing::answered(meshed.listed, capacity, counts)
 }
 
 // A unit quad for every visible face of a voxel in the interior of the box from `min` to `max`: six
@@ -190,11 +161,11 @@ pub fn visible_block_faces(
     max: UVec3,
     faces: [OrientedBlockFace; 6],
     out: &mut [u32],
-) -> UnitAnswer
+) -> MeshAnswer
     ensures { λ r. ⌜ outcome r (now (out .exit)) ≡ visibleBlockFaces (now (voxels .entry)) «voxels_shape» min max faces (now (out .entry)) ⌝ }
 {
     match bounds::enter_unit(voxels, voxels_shape, min, max, faces) {
-        EntryAnswer::Refused(number, place) => refused(number, place),
+        EntryAnswer::Refused(number, place) => listing::refused(number, place),
         EntryAnswer::Entered(entry) => {
             let interior = entry.interior;
             mesh(voxels, voxels_shape, interior, faces, out)

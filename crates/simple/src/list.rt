@@ -6,28 +6,22 @@ ghost use lib.ListN.{length, getD};
 ghost use Rattle.geometry.specs.Point.{at};
 ghost use Rattle.voxels.specs.Voxel as rule;
 ghost use Rattle.voxels.specs.Visible.{offsetIndex};
-ghost use Rattle.voxels.specs.Listing as listing;
-ghost use Rattle.voxels.specs.Inner.{mostVoxels, output, pushed};
+ghost use Rattle.voxels.specs.Inner.{mostVoxels};
+ghost use Rattle.listing.specs.Listing as laid;
+ghost use Rattle.listing.specs.Pushed.{output, pushed};
 ghost use Rattle.simple.specs.Unit.{unitNumbers, numbersOf};
 ghost use Rattle.simple.specs.Inner.{offsetOf, mostListed, voxelQuad, rowQuads, sliceQuads, slicesQuads, RowReady, SliceReady, SlicesReady, EachFace, Room, Sound, SliceSound, SlicesSound, Apart, Listed};
 use voxels::index::Stride;
 use voxels::index::VoxelIndex;
 use voxels::voxel;
 
-// Lists a unit quad: it is written where there is room.
+// Lists a unit quad: its minimum's three numbers.
 fn push(out: &mut [u32], capacity: usize, listed: usize, x: u32, y: u32, z: u32) -> usize
-    requires { ⌜ (capacity ≡ listing.capacity unitNumbers (length (now out))) × (listed < mostListed) ⌝ }
+    requires { ⌜ (capacity ≡ laid.capacity unitNumbers (length (now out))) × (listed < mostListed) ⌝ }
     ensures { λ r. ⌜ output (now (out .exit)) r ≡ pushed unitNumbers numbersOf (output (now (out .entry)) listed) (at x y z) ⌝ }
 {
-    if listed < capacity {
-        let at = listed * 3;
-        out[at] = x;
-        let next = at + 1;
-        out[next] = y;
-        let last = next + 1;
-        out[last] = z;
-        return listed + 1;
-    }
+    let item = [x, y, z];
+    listing::push(out, listed, &item);
     listed + 1
 }
 
@@ -43,7 +37,7 @@ fn list_voxel(
     y: u32,
     z: u32,
 )
-    requires { ⌜ capacity ≡ listing.capacity unitNumbers (length (now out)) ⌝ }
+    requires { ⌜ capacity ≡ laid.capacity unitNumbers (length (now out)) ⌝ }
     requires { ⌜ (index .0 < length (now voxels)) × (rule.class (getD (now voxels) (index .0) 0) ≤ 2) ⌝ }
     requires { ⌜ EachFace (λ f. offsetIndex (index .0) (offsetOf «kernel_strides» f) < length (now voxels)) ⌝ }
     requires { ⌜ Room (now cursors) 1 ⌝ }
@@ -79,7 +73,7 @@ fn list_row(
     z: u32,
     wide: u32,
 )
-    requires { ⌜ capacity ≡ listing.capacity unitNumbers (length (now out)) ⌝ }
+    requires { ⌜ capacity ≡ laid.capacity unitNumbers (length (now out)) ⌝ }
     requires { ⌜ EachFace (λ f. RowReady (length (now voxels)) (offsetOf «kernel_strides» f) (start .0) wide) ⌝ }
     requires { ⌜ Sound (now voxels) (start .0) wide ⌝ }
     requires { ⌜ (Room (now cursors) wide) × (x + wide ≤ mostVoxels) × (start .0 + wide ≤ 2 * mostVoxels) ⌝ }
@@ -120,7 +114,7 @@ fn list_slice(
     high: u32,
     z: u32,
 )
-    requires { ⌜ capacity ≡ listing.capacity unitNumbers (length (now out)) ⌝ }
+    requires { ⌜ capacity ≡ laid.capacity unitNumbers (length (now out)) ⌝ }
     requires { ⌜ EachFace (λ f. SliceReady (length (now voxels)) (offsetOf «kernel_strides» f) (start .0) wide («y_stride» .0) high) ⌝ }
     requires { ⌜ SliceSound (now voxels) (start .0) wide («y_stride» .0) high ⌝ }
     requires { ⌜ (Room (now cursors) (high * «y_stride» .0)) × (x + wide ≤ mostVoxels) × (y + high ≤ mostVoxels) ⌝ }
@@ -165,7 +159,7 @@ pub(crate) fn list_slices(
     z_stride: Stride,
     deep: u32,
 )
-    requires { ⌜ capacity ≡ listing.capacity unitNumbers (length (now out)) ⌝ }
+    requires { ⌜ capacity ≡ laid.capacity unitNumbers (length (now out)) ⌝ }
     requires { ⌜ EachFace (λ f. SlicesReady (length (now voxels)) (offsetOf «kernel_strides» f) (start .0) wide («y_stride» .0) high («z_stride» .0) deep) ⌝ }
     requires { ⌜ SlicesSound (now voxels) (start .0) wide («y_stride» .0) high («z_stride» .0) deep ⌝ }
     requires { ⌜ (Room (now cursors) (deep * «z_stride» .0)) × (x + wide ≤ mostVoxels) × (y + high ≤ mostVoxels) × (z + deep ≤ mostVoxels) ⌝ }

@@ -13,7 +13,6 @@ use Rattle.voxels.specs.Voxel.{class}
 use Rattle.voxels.specs.Shape.{size, index}
 use Rattle.voxels.specs.Extent.{interior, every}
 use Rattle.voxels.specs.Checks.{badVoxelAt}
-use Rattle.voxels.specs.Listing.{joined, capacity}
 
 -- The most voxels that a shape has.
 abbrev pub mostVoxels : ℕ
@@ -98,35 +97,3 @@ pub record SlicesLent (lent i wide d high e deep : ℕ) : Type 0 where
 unfoldable pub inStep : {A : Type 0} → ℕ → (ℕ → ℕ → List A) → ℕ → ℕ → ℕ → List A
 inStep d g a i zero = []
 inStep d g a i (suc n) = g a i ++ inStep d g (a + 1) (i + d) n
-
--- A list's numbers, set in a buffer one after another from a place on.
-abbrev pub setAll : List ℕ → ℕ → List ℕ → List ℕ
-setAll out k [] = out
-setAll out k (x ∷ xs) = setAll (set out k x) (k + 1) xs
-
--- A buffer that items are written to, and how many were listed, written or not.
-pub record Output : Type 0 where
-  pub out : List ℕ
-  pub listed : ℕ
-
--- The buffer and the number.
-abbrev pub output : List ℕ → ℕ → Output
-output out listed = record { out = out; listed = listed }
-
--- An item of so many numbers is listed: it is written where there is room.
-unfoldable pub pushed : {A : Type 0} → ℕ → (A → List ℕ) → Output → A → Output
-pushed numbers numbersOf s a =
-    elim (ltb (s .listed) (capacity numbers (length (s .out)))) [
-      | true ↦ output (setAll (s .out) (s .listed * numbers) (numbersOf a)) (s .listed + 1)
-      | false ↦ output (s .out) (s .listed + 1)
-    ]
-
--- Items are listed one after another.
-unfoldable pub pushedAll : {A : Type 0} → ℕ → (A → List ℕ) → Output → List A → Output
-pushedAll numbers numbersOf s [] = s
-pushedAll numbers numbersOf s (a ∷ l) = pushedAll numbers numbersOf (pushed numbers numbersOf s a) l
-
--- The buffer and the number listed are those of some groups listed from the start, and the counts are the groups'.
-pub record MadeGroups {A : Type 0} (numbers : ℕ) (numbersOf : A → List ℕ) (groups : List (List A)) (was out : List ℕ) (listed : ℕ) (counts : List ℕ) : Type 0 where
-  pub is : output out listed ≡ pushedAll numbers numbersOf (output was 0) (joined groups)
-  pub each : counts ≡ map length groups

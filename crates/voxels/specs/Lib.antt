@@ -4,7 +4,6 @@ pub mod Shape
 pub mod Extent
 pub mod Visible
 pub mod Checks
-pub mod Listing
 pub mod Answers
 pub mod Statements
 -- For private contracts alone:

@@ -2,7 +2,7 @@
 use borrow.Author.Needs.{needs}
 use mathlib.Core.Path.{refl}
 use native.Mathlib.Omega.{arith}
-use Rattle.voxels.specs.Listing.{capacity}
+use Rattle.listing.specs.Listing.{capacity}
 use Rattle.greedy.proofs.Outcome.{many-outcome, fit-outcome}
 use Rattle.greedy.proofs.mesh.Statement.{statement}
 use Rattle.greedy.proofs.mesh.Tie as tie

@@ -3,8 +3,8 @@ use borrow.Author.Needs.{needs}
 use mathlib.Core.Path.{sym}
 use native.Mathlib.Omega.{arith}
 use lib.ListN.{length-set}
-use Rattle.voxels.proofs.Pushed.{pushed-room, pushed-full}
-use Rattle.voxels.specs.Listing.{capacity}
+use Rattle.listing.proofs.Pushed.{pushed-room, pushed-full}
+use Rattle.listing.specs.Listing.{capacity}
 use Rattle.greedy.specs.Greedy.{quadNumbers, numbersOf}
 use Rattle.greedy.proofs.push.Statement.{statement}
 use Rattle.greedy.proofs.push.Tie as tie

@@ -6,11 +6,10 @@ use native.Mathlib.Nat.{add-zero, suc-add, not-suc-le-zero}
 use native.Mathlib.Omega.{arith}
 use lib.ListN.{length, getD, take, set, replicate}
 use lib.Seq.{length-take-le, take-all}
-use Rattle.geometry.specs.Refusal.{accepted, refused}
-use Rattle.voxels.specs.Listing.{joined, capacity, lay}
-use Rattle.voxels.specs.Inner.{Output, output, pushed, pushedAll, MadeGroups}
-use Rattle.voxels.proofs.Asked.{more, done}
-use Rattle.voxels.proofs.Pushed.{set-after, pushed-append, pushed-counts, all-laid, lay-many, lay-fits}
+use Rattle.geometry.specs.Refusal.{answer}
+use Rattle.listing.specs.Listing.{joined, capacity, tooMany, lay}
+use Rattle.listing.specs.Pushed.{Output, output, pushed, pushedAll, MadeGroups}
+use Rattle.listing.proofs.Pushed.{set-after, pushed-append, pushed-counts, all-laid}
 
 -- One more of a list.
 pub take-next : {A : Type 0} (l : List A) (k : ℕ) (d : A) → k < length l → take (k + 1) l ≡ take k l ++ (getD l k d ∷ [])
@@ -55,10 +54,11 @@ module _ {F A : Type 0} (numbers : ℕ) (numbersOf : A → List ℕ) (group : F 
   pub counts-next : (k n : ℕ) (counts : List ℕ) (c : ℕ) → length fs ≡ n → k < n → counts ≡ map length (map group (take k fs)) ++ replicate (n - k) 0 → c ≡ length (group (getD fs k d))
       → set counts k c ≡ map length (map group (take (k + 1) fs)) ++ replicate (n - (k + 1)) 0
   counts-next k n counts c all h before is =
+      let more : n - k ≡ suc (n - (k + 1)) = omega arith in
       let lens : List ℕ = map length (map group (take k fs)) in
       let rest : List ℕ = replicate (n - (k + 1)) 0 in
       let at-k : length lens ≡ k = length-map-at length (map group (take k fs)) ∙ length-map-at group (take k fs) ∙ length-take-le k fs (omega arith) in
-      let stored : set counts k c ≡ lens ++ (c ∷ rest) = rw (before, more k n h) (rw at-k at (set-after lens 0 c rest)) in
+      let stored : set counts k c ≡ lens ++ (c ∷ rest) = rw (before, more) (rw at-k at (set-after lens 0 c rest)) in
       let made : map length (map group (take (k + 1) fs)) ++ rest ≡ lens ++ (c ∷ rest) =
       rw (take-next fs k d (omega arith), map-one-more group (take k fs) (getD fs k d), map-one-more length (map group (take k fs)) (group (getD fs k d)), is)
       (append-assoc lens (length (group (getD fs k d)) ∷ []) rest) in
@@ -70,23 +70,17 @@ module _ {F A : Type 0} (group : F → List A) (fs : List F) where
   groups-done k h = ap (map group) (take-all k fs h)
 
   pub counts-done : (k n : ℕ) (counts : List ℕ) → length fs ≡ n → n ≤ k → counts ≡ map length (map group (take k fs)) ++ replicate (n - k) 0 → counts ≡ map length (map group fs)
-  counts-done k n counts all h e = rw (take-all k fs (omega arith), done k n h, append-nil) at e
+  counts-done k n counts all h e = let none : n - k ≡ zero = omega arith in rw (take-all k fs (omega arith), none, append-nil) at e
 
--- What was listed is what `lay` says: more than fit are refused, with the first written, and what fits is counted.
+-- What was listed is what `lay` says: the buffer, and the groups' counts or 9.
 module _ {A : Type 0} (numbers : ℕ) (numbersOf : A → List ℕ) (some : 0 < numbers) (sized : (a : A) → length (numbersOf a) ≡ numbers)
-    (groups : List (List A)) (was out : List ℕ) (listed : ℕ) (counts : List ℕ) (made : MadeGroups numbers numbersOf groups was out listed counts) (room : ℕ) (is : room ≡ capacity numbers (length was)) where
-  laid-is : output out listed ≡ output (lay numbers numbersOf groups was .out) (length (joined groups))
+    {groups : List (List A)} {was out : List ℕ} {count : ℕ} {counts : List ℕ} (made : MadeGroups numbers numbersOf groups was out count counts) where
+  laid-is : output out count ≡ output (lay numbers numbersOf groups was .out) (length (joined groups))
   laid-is = made .is ∙ all-laid numbers numbersOf some sized groups was
 
   pub laid-out : out ≡ lay numbers numbersOf groups was .out
   laid-out = ap (λ (s : Output). s .out) laid-is
 
-  pub laid-many : room < listed → refused 9 room ≡ lay numbers numbersOf groups was .answer
-  laid-many h =
-      let many : capacity numbers (length was) < length (joined groups) = omega (arith, ap (λ (o : Output). o .listed) laid-is) in
-      ap (refused 9) is ∙ sym (lay-many numbers numbersOf groups was many)
-
-  pub laid-counts : listed ≤ room → accepted counts ≡ lay numbers numbersOf groups was .answer
-  laid-counts h =
-      let fits : length (joined groups) ≤ capacity numbers (length was) = omega (arith, ap (λ (o : Output). o .listed) laid-is) in
-      ap accepted (made .each) ∙ sym (lay-fits numbers numbersOf groups was fits)
+  pub laid-answer : {room : ℕ} → room ≡ capacity numbers (length was) → answer (tooMany count room) counts ≡ lay numbers numbersOf groups was .answer
+  unfolding lay
+  laid-answer is = rw (is, ap (λ (s : Output). s .listed) laid-is, made .each)

@@ -1,16 +1,16 @@
 -- Items that are listed one after another, each written where there is room, leave the buffer that `lay` says. One law for items of any number of numbers.
 use mathlib.Core.List.{List, [], _∷_, _++_, map, append-assoc}
 use mathlib.Core.Path.{_≡_, refl, sym, _∙_, ap}
-use Prim.Native.Nat.{ℕ, zero, suc, _+_, _-_, _*_, _/_, _≤_, _<_}
-use native.Mathlib.Nat.{add-zero, zero-add, suc-add, add-mul, one-mul, zero-mul, suc-mul, not-suc-le-zero, mul-add-div-right, div-eq-of-lt, div-eq-sub-div, le-div-iff-mul-le}
+use Prim.Native.Nat.{ℕ, zero, suc, _+_, _*_, _/_, _≤_, _<_}
+use native.Mathlib.Nat.{div-mul-le-self, mul-le-mul-right, add-zero, zero-add, suc-add, add-mul, one-mul, zero-mul, suc-mul, not-suc-le-zero, mul-add-div-right, div-eq-of-lt, div-eq-sub-div, le-div-iff-mul-le}
 use native.Mathlib.Omega.{arith}
 use lib.Dec.{leb, ltb}
-use lib.ListN.{length, length-append, length-drop, take, drop, set}
-use borrow.Author.Tests.{lt-ltb, le-ltb, leb-true, leb-false}
+use lib.ListN.{length, getD, length-append, length-drop, take, drop, set, length-set}
+use borrow.Author.Tests.{lt-ltb, le-ltb, leb-true, leb-false, ltb-true, ltb-false}
 use Rattle.geometry.specs.Refusal.{accepted, refused, answer}
 use Rattle.geometry.proofs.Refusals.{split, applies, passes}
-use Rattle.voxels.specs.Listing.{joined, overwritten, capacity, lay}
-use Rattle.voxels.specs.Inner.{setAll, Output, output, pushed, pushedAll}
+use Rattle.listing.specs.Listing.{joined, overwritten, capacity, lay}
+use Rattle.listing.specs.Pushed.{setAll, put, Output, output, pushed, pushedAll}
 
 -- ---- writing a list
 
@@ -21,7 +21,7 @@ set-after (d ∷ done) r x rest = ap (λ (l : List ℕ). d ∷ l) (set-after don
 
 -- A list set from there on overwrites what follows.
 set-all-after : (xs done rest : List ℕ) → length xs ≤ length rest → setAll (done ++ rest) (length done) xs ≡ done ++ overwritten xs rest
-unfolding overwritten
+unfolding overwritten setAll
 set-all-after [] done rest h = refl
 set-all-after (x ∷ xs) done [] h = absurd (not-suc-le-zero h)
 set-all-after (x ∷ xs) done (r ∷ rest) h =
@@ -44,6 +44,44 @@ unfolding overwritten
 over-over done first next rest =
     rw (drop-drop (length first) (length next) rest, length-append first next, append-assoc first next (drop (length first + length next) rest))
     (append-assoc done first (next ++ drop (length first + length next) rest))
+
+-- Of the first so many of a list, one more is set.
+pub set-next : (xs out : List ℕ) (at k : ℕ) → k < length xs → setAll out at (take (k + 1) xs) ≡ set (setAll out at (take k xs)) (at + k) (getD xs k 0)
+unfolding setAll
+set-next [] out at k h = absurd (not-suc-le-zero h)
+set-next (x ∷ xs) out at zero h = rw add-zero
+set-next (x ∷ xs) out at (suc k) h =
+    let next : at + suc k ≡ at + 1 + k = omega arith in
+    rw (suc-add k 1, next) (set-next xs (set out at x) (at + 1) k (omega arith))
+
+-- Setting numbers keeps how many there are.
+pub set-all-length : (xs out : List ℕ) (at : ℕ) → length (setAll out at xs) ≡ length out
+unfolding setAll
+set-all-length [] out at = refl
+set-all-length (x ∷ xs) out at = set-all-length xs (set out at x) (at + 1) ∙ length-set out at x
+
+-- ---- an item
+
+-- Where there is room for one more item of so many numbers, its numbers fit.
+pub room-enough : (n long numbers : ℕ) → n < capacity numbers long → n * numbers + numbers ≤ long
+unfolding capacity
+room-enough n long numbers h = omega (arith, div-mul-le-self long numbers, mul-le-mul-right {m = suc n} {n = long / numbers} numbers h, suc-mul n numbers)
+
+-- An item is written where there is room for it,
+pub put-room : (out item : List ℕ) (n : ℕ) → n < capacity (length item) (length out) → put out n item ≡ setAll out (n * length item) item
+unfolding put
+put-room out item n h = rw (lt-ltb n (capacity (length item) (length out)) h, put)
+
+-- and where there is none nothing is;
+pub put-full : (out item : List ℕ) (n : ℕ) → capacity (length item) (length out) ≤ n → put out n item ≡ out
+unfolding put
+put-full out item n h = rw (le-ltb n (capacity (length item) (length out)) h, put)
+
+-- nor of an item of no numbers.
+pub put-none : (out item : List ℕ) (n : ℕ) → length item ≡ 0 → put out n item ≡ out
+unfolding put setAll
+put-none out [] n h = split (ltb n (capacity 0 (length out))) (λ t. rw (t, put)) (λ f. rw (f, put))
+put-none out (x ∷ item) n h = let none : ⊥ = omega arith in absurd none
 
 -- ---- listing items
 
@@ -70,6 +108,20 @@ module _ {A : Type 0} (numbers : ℕ) (numbersOf : A → List ℕ) where
   pushed-room s a h = rw (lt-ltb (s .listed) (capacity numbers (length (s .out))) h, pushed)
 
 module _ {A : Type 0} (numbers : ℕ) (numbersOf : A → List ℕ) (some : 0 < numbers) (sized : (a : A) → length (numbersOf a) ≡ numbers) where
+  -- Listing an item writes it, and counts it.
+  pub put-pushed : (out : List ℕ) (n : ℕ) (a : A) {out′ : List ℕ} → out′ ≡ put out n (numbersOf a) → output out′ (n + 1) ≡ pushed numbers numbersOf (output out n) a
+  put-pushed out n a e =
+      ap (λ (o : List ℕ). output o (n + 1)) e
+      ∙ split (ltb n (capacity numbers (length out)))
+      (λ t.
+      let h = ltb-true n (capacity numbers (length out)) t in
+      ap (λ (o : List ℕ). output o (n + 1)) (put-room out (numbersOf a) n (rw (sized a) h) ∙ ap (λ (k : ℕ). setAll out (n * k) (numbersOf a)) (sized a))
+      ∙ sym (pushed-room numbers numbersOf (output out n) a h))
+      (λ f.
+      let h = ltb-false n (capacity numbers (length out)) f in
+      ap (λ (o : List ℕ). output o (n + 1)) (put-full out (numbersOf a) n (rw (sized a) h))
+      ∙ sym (pushed-full numbers numbersOf (output out n) a h))
+
   -- Where there is no room all are counted alone.
   all-full : (l : List A) (out : List ℕ) (n : ℕ) → capacity numbers (length out) ≤ n → pushedAll numbers numbersOf (output out n) l ≡ output out (n + length l)
   unfolding pushedAll

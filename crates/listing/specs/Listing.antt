@@ -1,5 +1,5 @@
--- How lists are laid into a lent buffer: document 01, 'Refusal numbers', 9 and the paragraph on capacity. Unit meshing and greedy meshing share it; an item has so many
--- numbers in the one and so many in the other. The Rust appends to vectors that grow, one a face (buffer.rs); "ours starts at zero".
+-- How groups of items are laid into a lent buffer: document 01, 'Refusal numbers', 9 and the paragraph on capacity. All meshers share it; an item has so many numbers in the one and so many in the
+-- other. The Rust appends to vectors that grow, one a face (buffer.rs); "ours starts at zero".
 use mathlib.Core.List.{List, [], _∷_, _++_, map}
 use Prim.Native.Nat.{ℕ, _/_}
 use lib.Dec.{ltb}
@@ -17,7 +17,7 @@ overwritten new old = new ++ drop (length new) old
 
 -- "Capacity is the buffer's length divided by 5 (unit: 3), rounded down": how many items of so many numbers a buffer of a length holds.
 unfoldable pub capacity : ℕ → ℕ → ℕ
-capacity numbers length = length / numbers
+capacity numbers long = long / numbers
 
 -- Refusal 9: "more quads than the output holds"; its place is "its capacity".
 abbrev pub tooMany : ℕ → ℕ → List Check
