@@ -18,14 +18,14 @@ use Rattle.geometry.proofs.Frame.{frame}
 use Rattle.voxels.specs.Shape.{size, index, stride, field}
 use Rattle.voxels.specs.Extent.{Inside}
 use Rattle.voxels.specs.Visible.{modulus, visibilityOffset}
-use Rattle.listing.specs.Listing.{overwritten}
-use Rattle.voxels.specs.Inner.{mostVoxels, Entered, output, pushedAll}
+use Rattle.voxels.specs.Inner.{mostVoxels, Entered}
 use Rattle.voxels.proofs.Places.{index-below}
 use Rattle.voxels.proofs.Entered.{below, entered-stride, minimum-index, bound-within, bound-small, inner-in-shape, inner-beyond}
-use Rattle.rules.specs.Group.{fresh, roomU, roomV}
+use Rattle.listing.specs.Listing.{overwritten}
+use Rattle.listing.specs.Pushed.{output, pushedAll}
+use Rattle.rules.specs.Group.{fresh, roomU, roomV, visited}
 use Rattle.rules.specs.Greedy.{greedyGroup}
 use Rattle.rules.proofs.Spread.{spread, spread-n, spread-u, spread-v, spread-index, spread-inside}
-use Rattle.rules.specs.Group.{visited}
 use Rattle.greedy.specs.Greedy.{listedGroup}
 use Rattle.greedy.specs.Inner.{Touches, faster, slower, spanOf, faceScan, Scanned, progress, SpotReady, SlicesScan, slicesAlong, voxelTests, Accepted, Made, MadeFace}
 use Rattle.greedy.proofs.Sweeps.{spot-index, spot-inside, Same, group-same}

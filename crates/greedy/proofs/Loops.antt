@@ -9,10 +9,11 @@ use lib.Dec.{eqb}
 use lib.ListN.{length, getD, drop, replicate, length-replicate}
 use Rattle.geometry.specs.Point.{Point}
 use Rattle.geometry.proofs.Refusals.{split}
-use Rattle.voxels.specs.Inner.{longest, Output, output, pushed}
-use Rattle.listing.specs.Listing.{overwritten}
+use Rattle.voxels.specs.Inner.{longest}
 use Rattle.voxels.proofs.Asked.{more, done}
 use Rattle.voxels.proofs.Places.{next-at, below-last}
+use Rattle.listing.specs.Pushed.{Output, output, pushed}
+use Rattle.listing.specs.Listing.{overwritten}
 use Rattle.listing.proofs.Pushed.{pushed-counts}
 use Rattle.rules.specs.Group.{Pick}
 use Rattle.rules.specs.Merger.{Walked}

@@ -7,28 +7,30 @@ use native.Mathlib.Omega.{arith}
 use lib.IntN.{pos}
 use lib.ListN.{length, getD, take, replicate}
 use lib.Seq.{take-all}
-use borrow.Author.Tests.{ltb-false}
+use borrow.Author.Tests.{lt-ltb, le-ltb, ltb-false}
 use Rattle.geometry.specs.declared.axis.AxisPermutation.the-variants.{Xyz}
 use Rattle.geometry.specs.declared.face.OrientedBlockFace.{OrientedBlockFace}
 use Rattle.geometry.specs.Point.{Point}
-use Rattle.geometry.specs.Refusal.{accepted, refused, Check, answer}
-use Rattle.geometry.proofs.Refusals.{accepts-value, accepts-checked, first-passes}
+use Rattle.geometry.specs.Refusal.{Answer, accepted, refused, Check, answer}
+use Rattle.geometry.proofs.Refusals.{applies, passes, accepts-value, accepts-checked, first-passes}
 use Rattle.voxels.specs.Shape.{size, Field, field}
 use Rattle.voxels.specs.Checks.{greedyChecks}
-use Rattle.listing.specs.Listing.{overwritten, capacity, lay}
+use Rattle.listing.specs.declared.MeshAnswer.{MeshAnswer}
+use Rattle.listing.specs.Listing.{overwritten, capacity, tooMany, lay}
+use Rattle.listing.specs.Outcome.{meshAnswer, reported, listedAfter, MeshOutcome}
 use Rattle.voxels.specs.Answers.{entry}
 use Rattle.voxels.proofs.Orders.{answer-refused}
 use Rattle.voxels.proofs.Passed.{greedy-passed}
 use Rattle.voxels.proofs.Held.{bounds-held}
 use Rattle.voxels.proofs.Entered.{interior-is}
-use Rattle.listing.proofs.Groups.{take-next, laid-many, laid-counts, laid-out}
+use Rattle.listing.proofs.Groups.{take-next, laid-answer}
+use Rattle.listing.proofs.Outcome.{made-outcome}
 use Rattle.rules.specs.Greedy.{greedyGroup, greedyTests}
-use Rattle.greedy.specs.Greedy.{Listed, quadNumbers, numbersOf, greedyAnswer, GreedyOutcome, outcome, greedyQuads, listedGroups}
-use Rattle.greedy.specs.Inner.{Accepted, MadeFaces, laidOutcome}
+use Rattle.greedy.specs.Greedy.{Listed, quadNumbers, numbersOf, listedGroups, GreedyOutcome, outcome, greedyFrom, greedyQuads}
+use Rattle.greedy.specs.Inner.{Accepted, MadeFaces}
 use Rattle.greedy.proofs.Faces.{cleared-again}
 use Rattle.voxels.specs.declared.extent.Extent.{Extent}
 use Rattle.voxels.specs.declared.bounds.Entry.{Entry}
-use Rattle.greedy.specs.declared.GreedyAnswer.{GreedyAnswer}
 
 -- A listed quad has so many numbers.
 pub numbers-length : (l : Listed) → length (numbersOf l) ≡ quadNumbers
@@ -57,22 +59,29 @@ module _ (inner : Extent) (v : Field) where
 
 -- ---- the answer
 
-module _ (n : ℕ) (groups : List (List Listed)) (sum : ℕ) (wasMarks was marks out : List ℕ) (listed tests : ℕ) (counts : List ℕ)
-    (made : MadeFaces n groups sum wasMarks was marks out listed tests counts) (room : ℕ) (is : room ≡ capacity quadNumbers (length was)) where
-  -- More than fit are refused, with the first written,
-  pub many-outcome : (r : GreedyAnswer) (bytes : List ℕ) → bytes ≡ overwritten (replicate n 0) marks → room < listed → r ≡ greedyAnswer 0 (refused 9 room)
-      → outcome r bytes out ≡ laidOutcome sum (overwritten (replicate n 0) wasMarks) (lay quadNumbers numbersOf groups was)
-  many-outcome r bytes cleared h e =
-      let a : r ≡ greedyAnswer sum (lay quadNumbers numbersOf groups was .answer) = e ∙ ap (greedyAnswer sum) (laid-many quadNumbers numbersOf (omega arith) numbers-length groups was out listed counts (made .made) room is h) in
-      rw (a, cleared, cleared-again n marks wasMarks (made .rest), laid-out quadNumbers numbersOf (omega arith) numbers-length groups was out listed counts (made .made) room is)
+module _ (size : ℕ) (inner : Extent) (v : Field) (faces : List OrientedBlockFace) {wasMarks was marks out : List ℕ} {count tests : ℕ} {counts : List ℕ}
+    (made : MadeFaces size (listedGroups inner v faces) (greedyTests inner v faces) wasMarks was marks out count tests counts) {room : ℕ} (is : room ≡ capacity quadNumbers (length was))
+    {mesh : MeshAnswer} (answered : mesh ≡ meshAnswer (answer (tooMany count room) counts)) {bytes : List ℕ} (cleared : bytes ≡ overwritten (replicate size 0) marks) where
+  -- What the groups leave is what meshing leaves, once the tests are those that are reported.
+  made-leaves : {t : ℕ} → t ≡ reported (lay quadNumbers numbersOf (listedGroups inner v faces) was .answer) (greedyTests inner v faces)
+      → outcome (record { mesh = mesh; tests = t }) bytes out ≡ greedyFrom (accepted tt) size inner v faces wasMarks was
+  unfolding greedyFrom listedAfter
+  made-leaves e =
+      let left = made-outcome quadNumbers numbersOf (omega arith) numbers-length (made .made) is answered in
+      rw (e, cleared, cleared-again size marks wasMarks (made .rest))
+      (ap (λ (o : MeshOutcome). record { mesh = o; tests = reported (lay quadNumbers numbersOf (listedGroups inner v faces) was .answer) (greedyTests inner v faces); visitedBytes = overwritten (replicate size 0) wasMarks }) left)
 
-  -- and what fits is counted.
-  pub fit-outcome : (bytes : List ℕ) → bytes ≡ overwritten (replicate n 0) marks → listed ≤ room
-      → outcome (record { refusal = 0; place = 0; counts = counts; tests = tests }) bytes out ≡ laidOutcome sum (overwritten (replicate n 0) wasMarks) (lay quadNumbers numbersOf groups was)
-  fit-outcome bytes cleared h =
-      let a : record { refusal = 0; place = 0; counts = counts; tests = tests } ≡ greedyAnswer sum (lay quadNumbers numbersOf groups was .answer) =
-      ap (λ (t : ℕ). greedyAnswer t (accepted counts)) (made .tests-are) ∙ ap (greedyAnswer sum) (laid-counts quadNumbers numbersOf (omega arith) numbers-length groups was out listed counts (made .made) room is h) in
-      rw (a, cleared, cleared-again n marks wasMarks (made .rest), laid-out quadNumbers numbersOf (omega arith) numbers-length groups was out listed counts (made .made) room is)
+  answer-is : answer (tooMany count room) counts ≡ lay quadNumbers numbersOf (listedGroups inner v faces) was .answer
+  answer-is = laid-answer quadNumbers numbersOf (omega arith) numbers-length (made .made) is
+
+  -- More than fit are refused, and no tests are reported,
+  pub many-left : room < count → outcome (record { mesh = mesh; tests = 0 }) bytes out ≡ greedyFrom (accepted tt) size inner v faces wasMarks was
+  many-left h = made-leaves (ap (λ (a : Answer (List ℕ)). reported a (greedyTests inner v faces)) (sym (applies _ _ counts (lt-ltb room count h)) ∙ answer-is))
+
+  -- and where all fit they are.
+  pub all-left : count ≤ room → outcome (record { mesh = mesh; tests = tests }) bytes out ≡ greedyFrom (accepted tt) size inner v faces wasMarks was
+  unfolding answer
+  all-left h = made-leaves (made .tests-are ∙ ap (λ (a : Answer (List ℕ)). reported a (greedyTests inner v faces)) (sym (passes _ [] counts (le-ltb room count h)) ∙ answer-is))
 
 -- ---- the entry
 
@@ -81,9 +90,9 @@ module _ (voxels : List ℕ) (shape min max : Point) (faces : List OrientedBlock
   checks = greedyChecks voxels shape min max faces (length bytes)
 
   -- A refused entry leaves both buffers as they were.
-  pub refused-outcome : (out : List ℕ) (r : GreedyAnswer) {n p : ℕ} → answer checks (entry shape min max) ≡ refused n p → r ≡ greedyAnswer 0 (refused n p)
-      → outcome r bytes out ≡ greedyQuads voxels shape min max faces bytes out
-  unfolding greedyQuads
+  pub refused-outcome : (out : List ℕ) (r : MeshAnswer) {n p : ℕ} → answer checks (entry shape min max) ≡ refused n p → r ≡ meshAnswer (refused n p)
+      → outcome (record { mesh = r; tests = 0 }) bytes out ≡ greedyQuads voxels shape min max faces bytes out
+  unfolding greedyQuads greedyFrom listedAfter
   refused-outcome out r e is = rw (answer-refused checks (entry shape min max) e, is)
 
   module _ (e : Entry) (enters : answer checks (entry shape min max) ≡ accepted e) where
@@ -99,9 +108,8 @@ module _ (voxels : List ℕ) (shape min max : Point) (faces : List OrientedBlock
           marked = ltb-false (length bytes) (size shape) (first-passes _ _ _ (passed .1));
         }
 
-    -- It leaves what laying the groups leaves, and the first bytes 0.
+    -- It leaves what meshing leaves.
     pub entered-outcome : (n : ℕ) → n ≡ e .size → (out : List ℕ) {o : GreedyOutcome}
-        → o ≡ laidOutcome (greedyTests (e .interior) (field shape voxels) faces) (overwritten (replicate n 0) bytes) (lay quadNumbers numbersOf (listedGroups (e .interior) (field shape voxels) faces) out)
-        → o ≡ greedyQuads voxels shape min max faces bytes out
+        → o ≡ greedyFrom (accepted tt) n (e .interior) (field shape voxels) faces bytes out → o ≡ greedyQuads voxels shape min max faces bytes out
     unfolding greedyQuads
     entered-outcome n is out h = h ∙ rw (accepts-checked checks (entry shape min max) enters, interior-is checks shape min max enters, is, size-is)

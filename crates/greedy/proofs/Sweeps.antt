@@ -15,10 +15,11 @@ use Rattle.geometry.proofs.Refusals.{split}
 use Rattle.voxels.specs.Shape.{size, index, stride, Field, field}
 use Rattle.voxels.specs.Extent.{Inside, every, upTo, scan}
 use Rattle.voxels.specs.Visible.{visibilityOffset}
-use Rattle.voxels.specs.Inner.{Entered, Output, pushed, pushedAll}
+use Rattle.voxels.specs.Inner.{Entered}
 use Rattle.voxels.proofs.Places.{index-at, index-below}
 use Rattle.voxels.proofs.Scan.{each-same, inside-at}
 use Rattle.voxels.proofs.Entered.{inner-in-shape}
+use Rattle.listing.specs.Pushed.{Output, pushed, pushedAll}
 use Rattle.listing.proofs.Pushed.{pushed-append}
 use Rattle.listing.proofs.Groups.{map-one-more}
 use Rattle.rules.specs.Group.{sliceAt, sweep, passes, Choice, State, scanned, swept, fresh, group, Pick, roomU, roomV, quadOf}

@@ -13,15 +13,14 @@ use Rattle.geometry.specs.Axes.{positive, axesOf, nAxis, uAxis, vAxis}
 use Rattle.voxels.specs.Voxel.{shows, uniform}
 use Rattle.voxels.specs.Shape.{size, stride}
 use Rattle.voxels.specs.Visible.{modulus, visibilityOffset, offsetIndex}
-use Rattle.listing.specs.Listing.{Laid}
-use Rattle.voxels.specs.Inner.{mostVoxels, longest, Entered, Output, output, pushed, pushedAll, MadeGroups}
+use Rattle.voxels.specs.Inner.{mostVoxels, longest, Entered}
+use Rattle.listing.specs.Pushed.{Output, output, pushed, pushedAll, MadeGroups}
 use Rattle.rules.specs.Group.{Pick}
 use Rattle.rules.specs.Merger.{Walked}
-use Rattle.greedy.specs.Greedy.{Listed, listed, quadNumbers, numbersOf, greedyAnswer, GreedyOutcome}
+use Rattle.greedy.specs.Greedy.{Listed, listed, quadNumbers, numbersOf}
 use Rattle.voxels.specs.declared.extent.Extent.{Extent}
 use Rattle.greedy.specs.declared.face_scan.Span.{Span}
 use Rattle.greedy.specs.declared.face_scan.FaceScan.{FaceScan}
-use Rattle.greedy.specs.Greedy as rule
 
 -- ---- walks in general
 
@@ -291,7 +290,3 @@ pub record MadeFaces (size : ℕ) (groups : List (List Listed)) (sum : ℕ) (was
   pub made : MadeGroups quadNumbers numbersOf groups wasOut out listed counts
   pub tests-are : tests ≡ sum
   pub rest : SameFrom size wasMarks marks
-
--- The outcome of what laying leaves.
-abbrev pub laidOutcome : ℕ → List ℕ → Laid → GreedyOutcome
-laidOutcome tests marks laid = rule.outcome (greedyAnswer tests (laid .answer)) marks (laid .out)

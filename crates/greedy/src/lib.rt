@@ -7,14 +7,15 @@
 // than their test takes.
 ghost use mathlib.Core.Path.{_≡_};
 ghost use Prim.Native.Nat.{_+_, _*_, _<_, _≤_};
-ghost use lib.ListN.{length, replicate};
-ghost use Rattle.geometry.specs.Refusal as refusal;
+ghost use lib.ListN.{length};
+ghost use Rattle.geometry.specs.Refusal.{accepted};
 ghost use Rattle.voxels.specs.Shape as shape;
-ghost use Rattle.voxels.specs.Listing as listing;
-ghost use Rattle.voxels.specs.Inner.{mostVoxels, output, pushed};
+ghost use Rattle.voxels.specs.Inner.{mostVoxels};
+ghost use Rattle.listing.specs.Listing as laid;
+ghost use Rattle.listing.specs.Pushed.{output, pushed};
 ghost use Rattle.rules.specs.Greedy.{greedyGroup, greedyTests};
-ghost use Rattle.greedy.specs.Greedy.{quadNumbers, numbersOf, listed, listedGroup, greedyAnswer, outcome, greedyQuads, listedGroups};
-ghost use Rattle.greedy.specs.Inner.{Touches, needsAt, RowReady, Idle, SpotReady, RowScan, SliceScan, SlicesScan, voxelTests, ampleTests, Made, MadeFace, MadeFaces, Accepted, progress, laidAt, rowAlong, sliceAlong, slicesAlong, laidOutcome};
+ghost use Rattle.greedy.specs.Greedy.{quadNumbers, numbersOf, listed, listedGroup, listedGroups, outcome, greedyFrom, greedyQuads};
+ghost use Rattle.greedy.specs.Inner.{Touches, needsAt, RowReady, Idle, SpotReady, RowScan, SliceScan, SlicesScan, voxelTests, ampleTests, Made, MadeFace, MadeFaces, Accepted, progress, laidAt, rowAlong, sliceAlong, slicesAlong};
 
 mod face_scan;
 mod merge_strategy;
@@ -23,12 +24,12 @@ mod visited;
 use crate::face_scan::FaceScan;
 use geometry::face::OrientedBlockFace;
 use geometry::vector::UVec3;
+use listing::MeshAnswer;
 use voxels::bounds;
 use voxels::bounds::EntryAnswer;
 use voxels::extent::Extent;
 use voxels::index::Stride;
 use voxels::index::VoxelIndex;
-use voxels::refusal;
 use voxels::voxel;
 
 // How many numbers a listed quad has: minimum x, y, z, width, height.
@@ -36,12 +37,8 @@ pub const QUAD_NUMBERS: usize = 5;
 
 // What greedy meshing answers.
 pub struct GreedyAnswer {
-    // The refusal number, or 0 where the call was accepted.
-    pub refusal: u32,
-    // The refusal's place, or 0.
-    pub place: u64,
-    // How many quads each of the six groups has. All are 0 where the call was refused.
-    pub counts: [u64; 6],
+    // The refusal, its place and the counts.
+    pub mesh: MeshAnswer,
     // The voxel tests, summed over the six faces; 0 where the call was refused.
     pub tests: u64,
 }
@@ -76,7 +73,7 @@ fn face_needs_mesh(
     voxel::shows_face(voxel, voxels[j])
 }
 
-// Lists a quad: writes it where there is room.
+// Lists a quad: its minimum's three numbers, its width and its height.
 fn push(
     out: &mut [u32],
     capacity: usize,
@@ -85,22 +82,11 @@ fn push(
     width: u32,
     height: u32,
 ) -> usize
-    requires { ⌜ (capacity ≡ listing.capacity quadNumbers (length (now out))) × (quads ≤ ampleTests) ⌝ }
+    requires { ⌜ (capacity ≡ laid.capacity quadNumbers (length (now out))) × (quads ≤ ampleTests) ⌝ }
     ensures { λ r. ⌜ output (now (out .exit)) r ≡ pushed quadNumbers numbersOf (output (now (out .entry)) quads) (listed (record { minimum = minimum; width = width; height = height })) ⌝ }
 {
-    if quads < capacity {
-        let x = quads * QUAD_NUMBERS;
-        let y = x + 1;
-        let z = y + 1;
-        let w = z + 1;
-        let h = w + 1;
-        out[x] = minimum.x;
-        out[y] = minimum.y;
-        out[z] = minimum.z;
-        out[w] = width;
-        out[h] = height;
-        return quads + 1;
-    }
+    let item = [minimum.x, minimum.y, minimum.z, width, height];
+    listing::push(out, quads, &item);
     quads + 1
 }
 
@@ -115,7 +101,7 @@ fn lay_quad(
     minimum: UVec3,
     min_index: VoxelIndex,
 ) -> Progress
-    requires { ⌜ (capacity ≡ listing.capacity quadNumbers (length (now out))) × (before .listed ≤ before .tests) × (before .tests + voxelTests ≤ ampleTests) ⌝ }
+    requires { ⌜ (capacity ≡ laid.capacity quadNumbers (length (now out))) × (before .listed ≤ before .tests) × (before .tests + voxelTests ≤ ampleTests) ⌝ }
     requires { ⌜ SpotReady (length (now voxels)) (length (now visited)) scan minimum («min_index» .0) ⌝ }
     ensures { λ r. ⌜ Made (laidAt (now (voxels .entry)) scan (progress (now (visited .entry)) (now (out .entry)) (before .listed) (before .tests)) minimum («min_index» .0)) (before .tests + voxelTests) (now (visited .exit)) (now (out .exit)) (r .listed) (r .tests) ⌝ }
 {
@@ -182,7 +168,7 @@ fn scan_row(
     row: u32,
     start: VoxelIndex,
 ) -> Progress
-    requires { ⌜ (capacity ≡ listing.capacity quadNumbers (length (now out))) × (before .listed ≤ before .tests) × (before .tests + scan .row .count * voxelTests ≤ ampleTests) ⌝ }
+    requires { ⌜ (capacity ≡ laid.capacity quadNumbers (length (now out))) × (before .listed ≤ before .tests) × (before .tests + scan .row .count * voxelTests ≤ ampleTests) ⌝ }
     requires { ⌜ RowScan (length (now voxels)) (length (now visited)) scan slice row (start .0) ⌝ }
     ensures { λ r. ⌜ Made (rowAlong (now (voxels .entry)) scan slice (progress (now (visited .entry)) (now (out .entry)) (before .listed) (before .tests)) row (start .0)) (before .tests + scan .row .count * voxelTests) (now (visited .exit)) (now (out .exit)) (r .listed) (r .tests) ⌝ }
 {
@@ -241,7 +227,7 @@ fn scan_slice(
     slice: u32,
     start: VoxelIndex,
 ) -> Progress
-    requires { ⌜ (capacity ≡ listing.capacity quadNumbers (length (now out))) × (before .listed ≤ before .tests) × (before .tests + scan .rows .count * (scan .row .count * voxelTests) ≤ ampleTests) ⌝ }
+    requires { ⌜ (capacity ≡ laid.capacity quadNumbers (length (now out))) × (before .listed ≤ before .tests) × (before .tests + scan .rows .count * (scan .row .count * voxelTests) ≤ ampleTests) ⌝ }
     requires { ⌜ SliceScan (length (now voxels)) (length (now visited)) scan slice (start .0) ⌝ }
     ensures { λ r. ⌜ Made (sliceAlong (now (voxels .entry)) scan (progress (now (visited .entry)) (now (out .entry)) (before .listed) (before .tests)) slice (start .0)) (before .tests + scan .rows .count * (scan .row .count * voxelTests)) (now (visited .exit)) (now (out .exit)) (r .listed) (r .tests) ⌝ }
 {
@@ -283,7 +269,7 @@ fn scan_slices(
     scan: FaceScan,
     start: VoxelIndex,
 ) -> Progress
-    requires { ⌜ (capacity ≡ listing.capacity quadNumbers (length (now out))) × (before .listed ≤ before .tests) × (before .tests + scan .slices .count * (scan .rows .count * (scan .row .count * voxelTests)) ≤ ampleTests) ⌝ }
+    requires { ⌜ (capacity ≡ laid.capacity quadNumbers (length (now out))) × (before .listed ≤ before .tests) × (before .tests + scan .slices .count * (scan .rows .count * (scan .row .count * voxelTests)) ≤ ampleTests) ⌝ }
     requires { ⌜ SlicesScan (length (now voxels)) (length (now visited)) scan (start .0) ⌝ }
     ensures { λ r. ⌜ Made (slicesAlong (now (voxels .entry)) scan (progress (now (visited .entry)) (now (out .entry)) (before .listed) (before .tests)) (start .0)) (before .tests + scan .slices .count * (scan .rows .count * (scan .row .count * voxelTests))) (now (visited .exit)) (now (out .exit)) (r .listed) (r .tests) ⌝ }
 {
@@ -326,7 +312,7 @@ fn greedy_quads_for_face(
     interior: Extent,
     face: OrientedBlockFace,
 ) -> Progress
-    requires { ⌜ (capacity ≡ listing.capacity quadNumbers (length (now out))) × (before .listed ≤ before .tests) × (before .tests ≤ 6 * mostVoxels * voxelTests) × (marks ≡ shape.size «voxels_shape») ⌝ }
+    requires { ⌜ (capacity ≡ laid.capacity quadNumbers (length (now out))) × (before .listed ≤ before .tests) × (before .tests ≤ 6 * mostVoxels * voxelTests) × (marks ≡ shape.size «voxels_shape») ⌝ }
     requires { ⌜ Accepted (length (now voxels)) (length (now visited)) «voxels_shape» interior ⌝ }
     ensures { λ r. ⌜ MadeFace marks (listedGroup interior (shape.field «voxels_shape» (now (voxels .entry))) face) (greedyGroup interior (shape.field «voxels_shape» (now (voxels .entry))) face .tests) (now (visited .entry)) (now (out .entry)) (before .listed) (before .tests) (now (visited .exit)) (now (out .exit)) (r .listed) (r .tests) ⌝ }
 {
@@ -355,7 +341,7 @@ fn mesh_faces(
     interior: Extent,
     faces: [OrientedBlockFace; 6],
 ) -> Meshed
-    requires { ⌜ (capacity ≡ listing.capacity quadNumbers (length (now out))) × (size ≡ shape.size «voxels_shape») ⌝ }
+    requires { ⌜ (capacity ≡ laid.capacity quadNumbers (length (now out))) × (size ≡ shape.size «voxels_shape») ⌝ }
     requires { ⌜ Accepted (length (now voxels)) (length (now visited)) «voxels_shape» interior ⌝ }
     ensures { λ r. ⌜ MadeFaces size (listedGroups interior (shape.field «voxels_shape» (now (voxels .entry))) faces) (greedyTests interior (shape.field «voxels_shape» (now (voxels .entry))) faces) (now (visited .entry)) (now (out .entry)) (now (visited .exit)) (now (out .exit)) (r .listed) (r .tests) (r .counts) ⌝ }
 {
@@ -389,19 +375,6 @@ fn mesh_faces(
     }
 }
 
-// A refused call's answer.
-fn refused(number: u32, place: u64) -> GreedyAnswer
-    ensures { λ r. ⌜ r ≡ greedyAnswer 0 (refusal.refused number place) ⌝ }
-{
-    let counts = [0u64; 6];
-    GreedyAnswer {
-        refusal: number,
-        place,
-        counts,
-        tests: 0,
-    }
-}
-
 // The answer of an accepted call, what it lists, and the marks cleared again.
 fn mesh(
     voxels: &[u16],
@@ -414,7 +387,7 @@ fn mesh(
 ) -> GreedyAnswer
     requires { ⌜ size ≡ shape.size «voxels_shape» ⌝ }
     requires { ⌜ Accepted (length (now voxels)) (length (now visited)) «voxels_shape» interior ⌝ }
-    ensures { λ r. ⌜ outcome r (now (visited .exit)) (now (out .exit)) ≡ laidOutcome (greedyTests interior (shape.field «voxels_shape» (now (voxels .entry))) faces) (listing.overwritten (replicate size 0) (now (visited .entry))) (listing.lay quadNumbers numbersOf (listedGroups interior (shape.field «voxels_shape» (now (voxels .entry))) faces) (now (out .entry))) ⌝ }
+    ensures { λ r. ⌜ outcome r (now (visited .exit)) (now (out .exit)) ≡ greedyFrom (accepted tt) size interior (shape.field «voxels_shape» (now (voxels .entry))) faces (now (visited .entry)) (now (out .entry)) ⌝ }
 {
     let capacity = out.len() / QUAD_NUMBERS;
     let meshed = mesh_faces(
@@ -429,16 +402,14 @@ fn mesh(
     );
     visited::clear(visited, size);
     let listed = meshed.listed;
-    if capacity < listed {
-        return refused(refusal::MANY_QUADS, capacity as u64);
-    }
     let counts = meshed.counts;
-    let tests = meshed.tests;
+    let mesh = listing::answered(listed, capacity, counts);
+    if capacity < listed {
+        return GreedyAnswer { mesh, tests: 0 };
+    }
     GreedyAnswer {
-        refusal: 0,
-        place: 0,
-        counts,
-        tests,
+        mesh,
+        tests: meshed.tests,
     }
 }
 
@@ -463,7 +434,10 @@ pub fn greedy_quads(
     ensures { λ r. ⌜ outcome r (now (visited .exit)) (now (out .exit)) ≡ greedyQuads (now (voxels .entry)) «voxels_shape» min max faces (now (visited .entry)) (now (out .entry)) ⌝ }
 {
     match bounds::enter_greedy(voxels, voxels_shape, min, max, faces, visited.len()) {
-        EntryAnswer::Refused(number, place) => refused(number, place),
+        EntryAnswer::Refused(number, place) => {
+            let mesh = listing::refused(number, place);
+            GreedyAnswer { mesh, tests: 0 }
+        }
         EntryAnswer::Entered(entry) => {
             let interior = entry.interior;
             let size = entry.size as usize;

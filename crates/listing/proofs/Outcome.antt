@@ -2,12 +2,17 @@
 use mathlib.Core.List.{List}
 use mathlib.Core.Path.{_≡_, refl, sym, _∙_, ap}
 use Prim.Native.Nat.{ℕ, _<_}
+use native.Mathlib.Omega.{arith}
+use lib.Dec.{ltb}
 use lib.ListN.{length}
+use borrow.Author.Tests.{ltb-true, ltb-false}
 use Rattle.geometry.specs.Refusal.{Answer, accepted, refused, answer, follow}
+use Rattle.geometry.proofs.Refusals.{split}
 use Rattle.listing.specs.declared.MeshAnswer.{MeshAnswer}
-use Rattle.listing.specs.Listing.{capacity, tooMany, lay}
+use Rattle.listing.specs.Listing.{joined, capacity, tooMany, lay}
 use Rattle.listing.specs.Pushed.{MadeGroups}
-use Rattle.listing.specs.Outcome.{meshAnswer, listedAfter, outcome, listedOutcome}
+use Rattle.listing.specs.Outcome.{meshAnswer, reported, listedAfter, outcome, listedOutcome}
+use Rattle.listing.proofs.Pushed.{lay-many, lay-fits}
 use Rattle.listing.proofs.Groups.{laid-out, laid-answer}
 
 -- The answer to groups that were made.
@@ -35,3 +40,14 @@ entry-by-number (accepted u) x is m e other = refl
 entry-by-number (refused n p) x is m e other =
     let number : n ≡ m = sym (ap (λ (a : MeshAnswer). a .refusal) is) ∙ e in
     absurd (other p (ap (λ (k : ℕ). refused k p) number))
+
+-- Where a call answers 0, what it reports besides is reported.
+pub zero-reported : {A : Type 0} (numbers : ℕ) (numbersOf : A → List ℕ) (groups : List (List A)) (was : List ℕ) {r : MeshAnswer} → r ≡ meshAnswer (lay numbers numbersOf groups was .answer)
+    → r .refusal ≡ 0 → (n : ℕ) → reported (lay numbers numbersOf groups was .answer) n ≡ n
+zero-reported numbers numbersOf groups was e is n =
+    split (ltb (capacity numbers (length was)) (length (joined groups)))
+    (λ t.
+    let many = lay-many numbers numbersOf groups was (ltb-true _ _ t) in
+    let nine = ap (λ (a : MeshAnswer). a .refusal) (e ∙ ap meshAnswer many) in
+    absurd (omega arith))
+    (λ f. ap (λ (a : Answer (List ℕ)). reported a n) (lay-fits numbers numbersOf groups was (ltb-false _ _ f)))

@@ -5,9 +5,10 @@ use mathlib.Core.Path.{_≡_, refl, _∙_, ap}
 use Prim.Native.Nat.{_+_, _-_, _*_, _≤_}
 use native.Mathlib.Omega.{arith}
 use lib.ListN.{length, take, replicate}
-use Rattle.voxels.specs.Inner.{mostVoxels, output, pushedAll}
-use Rattle.listing.specs.Listing.{joined}
+use Rattle.voxels.specs.Inner.{mostVoxels}
 use Rattle.voxels.specs.Shape.{field}
+use Rattle.listing.specs.Pushed.{output, pushedAll}
+use Rattle.listing.specs.Listing.{joined}
 use Rattle.listing.proofs.Groups.{all-after, groups-next, counts-next, groups-done, counts-done}
 use Rattle.rules.specs.Greedy.{greedyTests}
 use Rattle.greedy.specs.Greedy.{Listed, listedGroup, quadNumbers, numbersOf, listedGroups}
