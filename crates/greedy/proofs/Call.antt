@@ -16,7 +16,7 @@ use Rattle.geometry.specs.Point.{Point}
 use Rattle.geometry.specs.Axes.{bit}
 use Rattle.geometry.specs.Refusal.{Answer, accepted, refused, Check, answer, checked, follow}
 use Rattle.geometry.specs.Statements.{Drawn}
-use Rattle.geometry.proofs.Refusals.{split, applies, passes}
+use Rattle.geometry.proofs.Refusals.{split, refused-number, not-both, applies, passes}
 use Rattle.voxels.specs.declared.extent.Extent.{Extent}
 use Rattle.voxels.specs.Shape.{size, index, Field, field}
 use Rattle.voxels.specs.Extent.{box, interior, scan, Each, inside, howMany}
@@ -25,7 +25,6 @@ use Rattle.voxels.specs.Checks.{badFacesFrom, badFaces, fewVisited, badVoxelAt,
 use Rattle.voxels.specs.Listing.{joined, overwritten, capacity, lay, atExit}
 use Rattle.voxels.proofs.Scan.{each-append, each-up}
 use Rattle.voxels.proofs.Pushed.{lay-many, lay-fits}
-use Rattle.voxels.proofs.Lowest.{refused-number, not-both}
 use Rattle.greedy.specs.declared.GreedyAnswer.{GreedyAnswer}
 use Rattle.greedy.specs.Group.{contains}
 use Rattle.greedy.specs.Greedy.{Listed, listed, listedGroup, quadNumbers, numbersOf, greedyGroup, greedyGroups, greedyTests, greedyAnswer, GreedyOutcome, outcome, greedyQuads}

@@ -15,13 +15,13 @@ use Rattle.geometry.specs.Point.{Point}
 use Rattle.geometry.specs.Axes.{uAxis, vAxis}
 use Rattle.geometry.specs.Corners.{corner}
 use Rattle.geometry.specs.Statements.{unitQuadAt, Drawn}
+use Rattle.geometry.proofs.Orders.{both-pass}
 use Rattle.geometry.proofs.Limits.{bounds-limits}
 use Rattle.geometry.proofs.Corners.{farU, farV, corner-n, corner-u, corner-v}
 use Rattle.geometry.proofs.Drawn.{drawn}
 use Rattle.voxels.specs.Shape.{Field, field}
 use Rattle.voxels.specs.Extent.{interior, Each}
 use Rattle.voxels.specs.Checks.{boundsChecks, badFaces, fewVisited, badVoxels, greedyChecks}
-use Rattle.voxels.proofs.Orders.{both-pass}
 use Rattle.voxels.proofs.Scan.{each-up}
 use Rattle.voxels.proofs.Held.{max-below}
 use Rattle.voxels.proofs.Faces.{Proper, faces-proper}

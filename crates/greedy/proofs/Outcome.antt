@@ -12,7 +12,8 @@ use Rattle.geometry.specs.declared.axis.AxisPermutation.the-variants.{Xyz}
 use Rattle.geometry.specs.declared.face.OrientedBlockFace.{OrientedBlockFace}
 use Rattle.geometry.specs.Point.{Point}
 use Rattle.geometry.specs.Refusal.{accepted, refused, Check, answer}
-use Rattle.geometry.proofs.Refusals.{accepts-value, accepts-checked, first-passes}
+use Rattle.geometry.proofs.Refusals.{accepts-value, accepts-checked, answer-refused, first-passes}
+use Rattle.geometry.proofs.Orders.{both-pass}
 use Rattle.voxels.specs.declared.extent.Extent.{Extent}
 use Rattle.voxels.specs.declared.bounds.Entry.{Entry}
 use Rattle.voxels.specs.Shape.{size, Field, field}
@@ -20,7 +21,6 @@ use Rattle.voxels.specs.Checks.{boundsChecks, badFaces, fewVisited, badVoxels, 
 use Rattle.voxels.specs.Listing.{overwritten, capacity, lay}
 use Rattle.voxels.specs.Answers.{entry}
 use Rattle.voxels.specs.Inner.{MadeGroups}
-use Rattle.voxels.proofs.Orders.{both-pass, answer-refused}
 use Rattle.voxels.proofs.Held.{bounds-held}
 use Rattle.voxels.proofs.Entered.{interior-is}
 use Rattle.voxels.proofs.Groups.{take-next, laid-many, laid-counts, laid-out}

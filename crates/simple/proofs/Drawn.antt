@@ -9,13 +9,13 @@ use Rattle.geometry.specs.Refusal.{accepted, checked}
 use Rattle.geometry.specs.Point.{Point}
 use Rattle.geometry.specs.Axes.{uAxis, vAxis}
 use Rattle.geometry.specs.Statements.{unitQuadAt, Drawn}
+use Rattle.geometry.proofs.Orders.{both-pass}
 use Rattle.geometry.proofs.Limits.{bounds-limits}
 use Rattle.geometry.proofs.Drawn.{drawn}
 use Rattle.voxels.specs.Shape.{Field, field}
 use Rattle.voxels.specs.Extent.{interior, Inside, scan, Each}
 use Rattle.voxels.specs.Visible.{visible}
 use Rattle.voxels.specs.Checks.{boundsChecks, badFaces, badVoxels, unitChecks}
-use Rattle.voxels.proofs.Orders.{both-pass}
 use Rattle.voxels.proofs.Scan.{each-up, each-those, scan-inside}
 use Rattle.voxels.proofs.Held.{max-below}
 use Rattle.voxels.proofs.Faces.{Proper, faces-proper}

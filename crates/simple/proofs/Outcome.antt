@@ -6,14 +6,14 @@ use lib.ListN.{length, getD}
 use Rattle.geometry.specs.declared.face.OrientedBlockFace.{OrientedBlockFace}
 use Rattle.geometry.specs.Point.{Point}
 use Rattle.geometry.specs.Refusal.{accepted, refused, Check, checked, answer}
-use Rattle.geometry.proofs.Refusals.{accepts-checked}
+use Rattle.geometry.proofs.Refusals.{accepts-checked, answer-refused}
+use Rattle.geometry.proofs.Orders.{both-pass}
 use Rattle.voxels.specs.declared.bounds.Entry.{Entry}
 use Rattle.voxels.specs.Shape.{field}
 use Rattle.voxels.specs.Checks.{boundsChecks, badFaces, badVoxels, unitChecks}
 use Rattle.voxels.specs.Listing.{lay}
 use Rattle.voxels.specs.Answers.{entry}
 use Rattle.voxels.specs.Inner.{Entered, SoundAround}
-use Rattle.voxels.proofs.Orders.{both-pass, answer-refused}
 use Rattle.voxels.proofs.Held.{bounds-held}
 use Rattle.voxels.proofs.Entered.{interior-is}
 use Rattle.voxels.proofs.Lowest.{sound-around}
