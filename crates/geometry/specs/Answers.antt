@@ -1,4 +1,5 @@
--- What each answer means: for each enum that a call gives, document 01's value, number and place for each of its cases. A check has a place; every other refusal of this crate has place 0.
+-- What each answer means: for each enum that a call gives, document 01's value, number and place for each of its cases. A check's answer says the place, for the checks
+-- of every crate; the others leave it out, since every refusal of this crate has place 0.
 use Rattle.geometry.specs.Refusal.{Answer, accepted, refused}
 use Rattle.geometry.specs.declared.vector.IVec3.{IVec3}
 use Rattle.geometry.specs.declared.axis.AxisPermutation.{AxisPermutation}
