@@ -82,11 +82,11 @@ pub fn zeros(visited: &[u8]) -> usize {
     n
 }
 
-// The answer of a check.
+// The answer of a check of geometry, whose place is 0.
 pub fn checked(answer: CheckAnswer) {
     match answer {
         CheckAnswer::Passed => text(b" passed"),
-        CheckAnswer::Refused(number) => refused(number),
+        CheckAnswer::Refused(number, _) => refused(number),
     }
 }
 

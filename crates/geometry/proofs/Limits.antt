@@ -40,9 +40,9 @@ voxel-at-most p h =
     elim [ X ↦ leb-true _ _ x | Y ↦ leb-true _ _ y | Z ↦ leb-true _ _ z ]
 
 -- of a side,
-side-at-most : (from long : ℕ) → sideWithinLimits from long ≡ true → from + long ≤ largestAxis
+side-at-most : (from side : ℕ) → sideWithinLimits from side ≡ true → from + side ≤ largestAxis
 unfolding sideWithinLimits
-side-at-most from long h = leb-true _ _ (both-true (leb 1 long) (leb (from + long) largestAxis) h .1)
+side-at-most from side h = leb-true _ _ (both-true (leb 1 side) (leb (from + side) largestAxis) h .1)
 
 -- and of the quad.
 pub limits-bounds : (f : OrientedBlockFace) (q : UnorientedQuad) → withinLimits (axesOf (f .permutation)) q ≡ true → WithinBounds f q

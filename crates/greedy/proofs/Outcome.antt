@@ -12,23 +12,22 @@ use Rattle.geometry.specs.declared.axis.AxisPermutation.the-variants.{Xyz}
 use Rattle.geometry.specs.declared.face.OrientedBlockFace.{OrientedBlockFace}
 use Rattle.geometry.specs.Point.{Point}
 use Rattle.geometry.specs.Refusal.{Answer, accepted, refused, Check, answer}
-use Rattle.geometry.proofs.Refusals.{applies, passes, accepts-value, accepts-checked, first-passes}
+use Rattle.geometry.proofs.Refusals.{applies, passes, accepts-value, accepts-checked, first-passes, answer-refused}
 use Rattle.voxels.specs.Shape.{size, Field, field}
 use Rattle.voxels.specs.Checks.{greedyChecks}
-use Rattle.listing.specs.declared.MeshAnswer.{MeshAnswer}
-use Rattle.listing.specs.Listing.{overwritten, capacity, tooMany, lay}
-use Rattle.listing.specs.Outcome.{meshAnswer, reported, listedAfter, MeshOutcome}
 use Rattle.voxels.specs.Answers.{entry}
-use Rattle.voxels.proofs.Orders.{answer-refused}
 use Rattle.voxels.proofs.Passed.{greedy-passed}
 use Rattle.voxels.proofs.Held.{bounds-held}
 use Rattle.voxels.proofs.Entered.{interior-is}
+use Rattle.listing.specs.Listing.{overwritten, capacity, tooMany, lay}
+use Rattle.listing.specs.Outcome.{meshAnswer, reported, listedAfter, MeshOutcome}
 use Rattle.listing.proofs.Groups.{take-next, laid-answer}
 use Rattle.listing.proofs.Outcome.{made-outcome}
 use Rattle.rules.specs.Greedy.{greedyGroup, greedyTests}
 use Rattle.greedy.specs.Greedy.{Listed, quadNumbers, numbersOf, listedGroups, GreedyOutcome, outcome, greedyFrom, greedyQuads}
 use Rattle.greedy.specs.Inner.{Accepted, MadeFaces}
 use Rattle.greedy.proofs.Faces.{cleared-again}
+use Rattle.listing.specs.declared.MeshAnswer.{MeshAnswer}
 use Rattle.voxels.specs.declared.extent.Extent.{Extent}
 use Rattle.voxels.specs.declared.bounds.Entry.{Entry}
 

@@ -15,7 +15,7 @@ joined (l ∷ ls) = l ++ joined ls
 unfoldable pub overwritten : List ℕ → List ℕ → List ℕ
 overwritten new old = new ++ drop (length new) old
 
--- "Capacity is the buffer's length divided by 5 (unit: 3), rounded down": how many items of so many numbers a buffer of a length holds.
+-- "Capacity is the buffer's length divided by 5 (unit: 3), rounded down": how many items of so many numbers a buffer so long holds.
 unfoldable pub capacity : ℕ → ℕ → ℕ
 capacity numbers long = long / numbers
 

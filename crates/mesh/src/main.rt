@@ -16,9 +16,9 @@ mod words;
 
 use geometry::axis::SignedAxis;
 use geometry::face::OrientedBlockFace;
+use geometry::refusal::CheckAnswer;
 use greedy::QUAD_NUMBERS;
 use voxels::bounds;
-use voxels::bounds::EntryCheck;
 use words::Job;
 
 // The six faces of a cube, in the order of `show::face`.
@@ -92,11 +92,11 @@ fn main() {
     }
     let shape = job.shape;
     match bounds::check_shape(shape) {
-        EntryCheck::Refused(number, place) => {
+        CheckAnswer::Refused(number, place) => {
             say::refused(number, place);
             return;
         }
-        EntryCheck::Passed => {}
+        CheckAnswer::Passed => {}
     }
     let size = block::size(shape.x, shape.y, shape.z);
     if size > block::MOST_VOXELS {

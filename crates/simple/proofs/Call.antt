@@ -11,16 +11,14 @@ use denote.Triple.Clauses
 use Rattle.geometry.specs.declared.face.OrientedBlockFace.{OrientedBlockFace}
 use Rattle.geometry.specs.Refusal.{accepted, Check, checked}
 use Rattle.geometry.specs.Point.{Point}
-use Rattle.voxels.specs.declared.extent.Extent.{Extent}
 use Rattle.voxels.specs.Shape.{Field, field}
 use Rattle.voxels.specs.Extent.{interior, Each}
 use Rattle.voxels.specs.Checks.{unitChecks}
 use Rattle.voxels.proofs.Passed.{unit-passed}
 use Rattle.voxels.proofs.Numbered.{entryNumber, unit-never}
 use Rattle.voxels.proofs.Scan.{each-up}
-use Rattle.listing.specs.declared.MeshAnswer.{MeshAnswer}
 use Rattle.listing.specs.Listing.{lay}
-use Rattle.listing.specs.Outcome.{meshAnswer, listedAfter, MeshOutcome, outcome, listedOutcome}
+use Rattle.listing.specs.Outcome.{listedAfter, MeshOutcome, outcome, listedOutcome}
 use Rattle.listing.specs.Cut.{groupsIn, Matched}
 use Rattle.listing.proofs.Outcome.{entry-passed, entry-by-number}
 use Rattle.listing.proofs.Cut.{zero-groups, nine-place, nine-first}
@@ -31,6 +29,8 @@ use Rattle.rules.proofs.Drawn.{unit-drawn}
 use Rattle.simple.specs.Unit.{unitNumbers, numbersOf, unitFrom, visibleBlockFaces}
 use Rattle.simple.specs.Call.{minimumFrom, UnitMeshed, CallHolds, NineHolds}
 use Rattle.simple.proofs.Outcome.{three}
+use Rattle.voxels.specs.declared.extent.Extent.{Extent}
+use Rattle.listing.specs.declared.MeshAnswer.{MeshAnswer}
 use Rattle.simple.proofs.visible_block_faces
 use Rattle.simple.proofs.visible_block_faces.Kinds as visible-block-faces-kinds
 use Rattle.simple.proofs.visible_block_faces.Reads as visible-block-faces

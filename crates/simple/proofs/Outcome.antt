@@ -6,12 +6,11 @@ use lib.ListN.{length, getD}
 use Rattle.geometry.specs.declared.face.OrientedBlockFace.{OrientedBlockFace}
 use Rattle.geometry.specs.Refusal.{accepted, refused, Check, answer}
 use Rattle.geometry.specs.Point.{Point}
-use Rattle.geometry.proofs.Refusals.{accepts-checked}
+use Rattle.geometry.proofs.Refusals.{accepts-checked, answer-refused}
 use Rattle.voxels.specs.Shape.{field}
 use Rattle.voxels.specs.Checks.{unitChecks}
 use Rattle.voxels.specs.Answers.{entry}
 use Rattle.voxels.specs.Inner.{Entered, SoundAround}
-use Rattle.voxels.proofs.Orders.{answer-refused}
 use Rattle.voxels.proofs.Passed.{Passed, unit-passed}
 use Rattle.voxels.proofs.Held.{bounds-held}
 use Rattle.voxels.proofs.Entered.{interior-is}

@@ -3,7 +3,7 @@
 ghost use mathlib.Core.Path.{_≡_};
 ghost use Rattle.spunmarrow.specs.Mesh.{nine, nineRefused, unitLeft, unitCall, greedyLeft, greedyCall};
 use crate::numbers;
-use voxels::bounds::EntryCheck;
+use geometry::refusal::CheckAnswer;
 
 // Writes the nine numbers of an answer.
 fn write(answer: &mut [u64; 9], refusal: u32, place: u64, counts: [u64; 6], tests: u64)
@@ -40,10 +40,10 @@ pub extern "C" fn spunmarrow_visible_block_faces(
     ensures { λ _. ⌜ unitLeft (now (answer .exit)) (now (out .exit)) ≡ unitCall (now (shape .entry)) (now (min .entry)) (now (max .entry)) (now (faces .entry)) (now (voxels .entry)) (now (out .entry)) ⌝ }
 {
     match numbers::check_faces(faces) {
-        EntryCheck::Refused(number, place) => {
+        CheckAnswer::Refused(number, place) => {
             refuse(answer, number, place);
         }
-        EntryCheck::Passed => {
+        CheckAnswer::Passed => {
             let meshed = simple::visible_block_faces(
                 voxels,
                 numbers::point(shape),
@@ -74,10 +74,10 @@ pub extern "C" fn spunmarrow_greedy_quads(
     ensures { λ _. ⌜ greedyLeft (now (answer .exit)) (now (visited .exit)) (now (out .exit)) ≡ greedyCall (now (shape .entry)) (now (min .entry)) (now (max .entry)) (now (faces .entry)) (now (voxels .entry)) (now (visited .entry)) (now (out .entry)) ⌝ }
 {
     match numbers::check_faces(faces) {
-        EntryCheck::Refused(number, place) => {
+        CheckAnswer::Refused(number, place) => {
             refuse(answer, number, place);
         }
-        EntryCheck::Passed => {
+        CheckAnswer::Passed => {
             let meshed = greedy::greedy_quads(
                 voxels,
                 numbers::point(shape),

@@ -5,8 +5,6 @@ pub mod Numbers
 pub mod Voxels
 -- Of places in a shape: index and stride.
 pub mod Places
--- Of orders of refusals, asked part by part.
-pub mod Orders
 -- Of checks asked by a loop.
 pub mod Asked
 -- Of scan order, and loops over it.

@@ -8,12 +8,11 @@ use lib.ListN.{length}
 use Rattle.geometry.specs.declared.face.OrientedBlockFace.{OrientedBlockFace}
 use Rattle.geometry.specs.Refusal.{refused, Check, checked, answer}
 use Rattle.geometry.specs.Point.{Point}
-use Rattle.geometry.proofs.Refusals.{split, applies, passes}
+use Rattle.geometry.proofs.Refusals.{split, applies, passes, refused-number, not-both}
 use Rattle.voxels.specs.Shape.{index}
 use Rattle.voxels.specs.Extent.{box, scan, Each}
 use Rattle.voxels.specs.Checks.{boundsChecks, badFacesFrom, badFaces, fewVisited, badVoxelAt, badVoxels, unitChecks, greedyChecks}
 use Rattle.voxels.proofs.Scan.{each-append}
-use Rattle.voxels.proofs.Lowest.{refused-number, not-both}
 
 -- Whether an entry may give a number.
 abbrev pub entryNumber : ℕ → Bool

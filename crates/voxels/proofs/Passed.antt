@@ -6,8 +6,8 @@ use lib.ListN.{length}
 use Rattle.geometry.specs.declared.face.OrientedBlockFace.{OrientedBlockFace}
 use Rattle.geometry.specs.Refusal.{accepted, checked}
 use Rattle.geometry.specs.Point.{Point}
+use Rattle.geometry.proofs.Orders.{both-pass}
 use Rattle.voxels.specs.Checks.{boundsChecks, badFaces, fewVisited, badVoxels, unitChecks, greedyChecks}
-use Rattle.voxels.proofs.Orders.{both-pass}
 
 module _ (voxels : List ℕ) (shape min max : Point) (faces : List OrientedBlockFace) where
   -- 1 to 5, 6 and 8 have passed.

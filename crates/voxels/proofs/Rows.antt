@@ -12,7 +12,7 @@ use Rattle.geometry.proofs.Refusals.{split}
 use Rattle.voxels.specs.Voxel.{class}
 use Rattle.voxels.specs.Extent.{every}
 use Rattle.voxels.specs.Inner.{mostVoxels, badAt, row, rows, AtMost, RowLent, RowsLent}
-use Rattle.voxels.proofs.Orders.{part-passes}
+use Rattle.geometry.proofs.Orders.{part-passes}
 use Rattle.voxels.proofs.Asked.{good-here}
 
 -- ---- rows that touch

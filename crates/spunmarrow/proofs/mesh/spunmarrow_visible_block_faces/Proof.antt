@@ -1,7 +1,7 @@
 -- `spunmarrow_visible_block_faces` meets its contract: the check of the faces decides, or unit meshing.
 use borrow.Author.Needs.{needs}
 use mathlib.Core.Path.{ap}
-use Rattle.voxels.specs.Answers.{entryCheckMeaning}
+use Rattle.geometry.specs.Answers.{checkMeaning}
 use Rattle.spunmarrow.proofs.Left.{unit-refused, unit-made}
 use Rattle.spunmarrow.proofs.mesh.spunmarrow_visible_block_faces.Statement.{statement}
 use Rattle.spunmarrow.proofs.mesh.spunmarrow_visible_block_faces.Tie as tie
@@ -39,7 +39,7 @@ write-requires c κs = search needs
 returns : tie.Need-returns
 returns c =
     let a = c .before .before .before .before .before .before .before .before .args in
-    unit-refused (a .shape .now) (a .min .now) (a .max .now) (a .faces .now) (a .voxels .now) (a .out .now) (c .before .before .before .before .before .check-faces .ensures) (ap entryCheckMeaning (c .before .before .before .number .given .1)) (c .refuse .ensures)
+    unit-refused (a .shape .now) (a .min .now) (a .max .now) (a .faces .now) (a .voxels .now) (a .out .now) (c .before .before .before .before .before .check-faces .ensures) (ap checkMeaning (c .before .before .before .number .given .1)) (c .refuse .ensures)
 
 same-length : tie.Need-same-length
 same-length c = search needs
@@ -47,7 +47,7 @@ same-length c = search needs
 returns-2 : tie.Need-returns-2
 returns-2 c =
     let a = c .before .before .before .before .before .before .before .before .before .before .before .before .before .before .before .before .args in
-    unit-made (a .shape .now) (a .min .now) (a .max .now) (a .faces .now) (a .voxels .now) (a .out .now) (c .before .before .before .before .before .before .before .before .before .before .before .before .before .check-faces .ensures) (ap entryCheckMeaning (c .before .before .before .before .before .before .before .before .before .before .before .enum-told .given .1))
+    unit-made (a .shape .now) (a .min .now) (a .max .now) (a .faces .now) (a .voxels .now) (a .out .now) (c .before .before .before .before .before .before .before .before .before .before .before .before .before .check-faces .ensures) (ap checkMeaning (c .before .before .before .before .before .before .before .before .before .before .before .enum-told .given .1))
     (c .before .before .before .before .before .before .before .before .before .before .point .ensures) (c .before .before .before .before .before .before .before .before .before .point2 .ensures) (c .before .before .before .before .before .before .before .before .point3 .ensures) (c .before .before .before .before .before .before .before .faces .ensures) (c .before .before .before .before .before .visible-block-faces .ensures) (c .write .ensures)
 
 pub spunmarrow-visible-block-faces-spec : {M : Type 1} → statement M

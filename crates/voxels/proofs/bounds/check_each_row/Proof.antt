@@ -5,7 +5,7 @@ use Prim.Native.Nat.{_+_, _-_, _*_, _≤_}
 use native.Mathlib.Nat.{zero-mul}
 use native.Mathlib.Omega.{arith}
 use Rattle.geometry.specs.Refusal.{checked}
-use Rattle.voxels.specs.Answers.{entryCheckMeaning}
+use Rattle.geometry.specs.Answers.{checkMeaning}
 use Rattle.voxels.specs.Extent.{every}
 use Rattle.voxels.specs.Inner.{badAt, row, rows}
 use Rattle.voxels.proofs.Asked.{ask-start, ask-on, ask-stops, ask-done}
@@ -33,7 +33,7 @@ returns : tie.Need-returns Inv-loop μ-loop
 returns c =
     let s = c .before .before .before .before .before .before .before .args in
     let l = c .before .before .before .before .before .loop in
-    ask-stops (s .y-stride .0) (row (badAt (s .voxels .now)) (s .wide)) (l .i) (l .k) (s .high) (l .inv .2) (c .before .before .before .before .loop-test .taken) (sym (c .before .before .before .check-row .ensures) ∙ ap entryCheckMeaning (c .before .number .given .1))
+    ask-stops (s .y-stride .0) (row (badAt (s .voxels .now)) (s .wide)) (l .i) (l .k) (s .high) (l .inv .2) (c .before .before .before .before .loop-test .taken) (sym (c .before .before .before .check-row .ensures) ∙ ap checkMeaning (c .before .number .given .1))
 
 enum-told : tie.Need-enum-told Inv-loop μ-loop
 enum-told c = search needs
@@ -53,7 +53,7 @@ loop-again : tie.Need-loop-again Inv-loop μ-loop
 loop-again c =
     let s = c .before .before .before .before .before .before .args in
     let l = c .before .before .before .before .loop in
-    (omega arith, next-at _ _ _ _ (l .inv .1), ask-on (s .y-stride .0) (row (badAt (s .voxels .now)) (s .wide)) (l .i) (l .k) (s .high) (l .inv .2) (c .before .before .before .loop-test .taken) (sym (c .before .before .check-row .ensures) ∙ ap entryCheckMeaning (c .enum-told .given .1)))
+    (omega arith, next-at _ _ _ _ (l .inv .1), ask-on (s .y-stride .0) (row (badAt (s .voxels .now)) (s .wide)) (l .i) (l .k) (s .high) (l .inv .2) (c .before .before .before .loop-test .taken) (sym (c .before .before .check-row .ensures) ∙ ap checkMeaning (c .enum-told .given .1)))
 
 returns-2 : tie.Need-returns-2 Inv-loop μ-loop
 returns-2 c =
