@@ -15,10 +15,8 @@ use Rattle.voxels.proofs.Passed.{Passed, unit-passed}
 use Rattle.voxels.proofs.Held.{bounds-held}
 use Rattle.voxels.proofs.Entered.{interior-is}
 use Rattle.voxels.proofs.Lowest.{sound-around}
-use Rattle.listing.specs.Listing.{lay}
 use Rattle.listing.specs.Outcome.{meshAnswer, MeshOutcome, outcome, listedOutcome}
-use Rattle.listing.proofs.Outcome.{entry-refused, entry-passed}
-use Rattle.rules.specs.Unit.{unitGroups}
+use Rattle.listing.proofs.Outcome.{entry-refused}
 use Rattle.simple.specs.Unit.{unitNumbers, numbersOf, unitFrom, visibleBlockFaces}
 use Rattle.voxels.specs.declared.bounds.Entry.{Entry}
 use Rattle.listing.specs.declared.MeshAnswer.{MeshAnswer}
@@ -51,9 +49,7 @@ module _ (voxels : List ℕ) (shape min max : Point) (faces : List OrientedBlock
     pub is-sound : ((i : ℕ) → getD voxels i 0 < 65_536) → SoundAround voxels shape (e .interior)
     is-sound small = rw (interior-is checks shape min max enters) (sound-around shape (length voxels) min max (bounds-held shape (length voxels) min max (passed .bounds)) voxels (passed .sound) small)
 
-    -- It leaves what laying the groups leaves.
-    pub entered-outcome : (out : List ℕ) {o : MeshOutcome} → o ≡ listedOutcome (lay unitNumbers numbersOf (unitGroups (e .interior) (field shape voxels) faces) out)
-        → o ≡ visibleBlockFaces voxels shape min max faces out
-    unfolding visibleBlockFaces unitFrom
-    entered-outcome out h =
-        h ∙ rw (interior-is checks shape min max enters) (ap listedOutcome (sym (entry-passed unitNumbers numbersOf _ out (accepts-checked checks (entry shape min max) enters))))
+    -- It leaves what meshing leaves.
+    pub entered-outcome : (out : List ℕ) {o : MeshOutcome} → o ≡ unitFrom (accepted tt) (e .interior) (field shape voxels) faces out → o ≡ visibleBlockFaces voxels shape min max faces out
+    unfolding visibleBlockFaces
+    entered-outcome out h = h ∙ rw (accepts-checked checks (entry shape min max) enters, interior-is checks shape min max enters)

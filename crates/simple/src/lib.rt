@@ -6,13 +6,14 @@
 ghost use mathlib.Core.Path.{_≡_};
 ghost use Prim.Native.Nat.{_<_};
 ghost use lib.ListN.{length};
+ghost use Rattle.geometry.specs.Refusal.{accepted};
 ghost use Rattle.voxels.specs.Shape.{field};
 ghost use Rattle.voxels.specs.Inner.{Entered, SoundAround};
 ghost use Rattle.listing.specs.Listing as rule;
 ghost use Rattle.listing.specs.Pushed.{MadeGroups};
-ghost use Rattle.listing.specs.Outcome.{outcome, listedOutcome};
+ghost use Rattle.listing.specs.Outcome.{outcome};
 ghost use Rattle.rules.specs.Unit.{unitGroups};
-ghost use Rattle.simple.specs.Unit.{unitNumbers, numbersOf, visibleBlockFaces};
+ghost use Rattle.simple.specs.Unit.{unitNumbers, numbersOf, unitFrom, visibleBlockFaces};
 ghost use Rattle.simple.specs.Inner.{Room, kernelStride, KernelOf, Starts};
 
 mod count;
@@ -144,7 +145,7 @@ fn mesh(
 ) -> MeshAnswer
     requires { ⌜ Entered (length (now voxels)) «voxels_shape» interior ⌝ }
     requires { ⌜ SoundAround (now voxels) «voxels_shape» interior ⌝ }
-    ensures { λ r. ⌜ outcome r (now (out .exit)) ≡ listedOutcome (rule.lay unitNumbers numbersOf (unitGroups interior (field «voxels_shape» (now (voxels .entry))) faces) (now (out .entry))) ⌝ }
+    ensures { λ r. ⌜ outcome r (now (out .exit)) ≡ unitFrom (accepted tt) interior (field «voxels_shape» (now (voxels .entry))) faces (now (out .entry)) ⌝ }
 {
     let capacity = out.len() / 3;
     let meshed = mesh_faces(voxels, out, capacity, voxels_shape, interior, faces);

@@ -3,8 +3,9 @@ use borrow.Author.Needs.{needs}
 use mathlib.Core.Path.{refl}
 use native.Mathlib.Omega.{arith}
 use Rattle.listing.specs.Listing.{capacity}
+use Rattle.listing.specs.Outcome.{listedAfter}
 use Rattle.listing.proofs.Outcome.{made-outcome}
-use Rattle.simple.specs.Unit.{unitNumbers, numbersOf}
+use Rattle.simple.specs.Unit.{unitNumbers, numbersOf, unitFrom}
 use Rattle.simple.proofs.Outcome.{three}
 use Rattle.simple.proofs.mesh.Statement.{statement}
 use Rattle.simple.proofs.mesh.Tie as tie
@@ -24,7 +25,7 @@ same-length : tie.Need-same-length
 same-length c = search needs
 
 returns : tie.Need-returns
-unfolding capacity
+unfolding capacity unitFrom listedAfter
 returns c = made-outcome unitNumbers numbersOf (omega arith) three (meshed c .mesh-faces .ensures) refl (c .answered .ensures)
 
 pub mesh-spec : {M : Type 1} → statement M
