@@ -11,7 +11,7 @@ use Rattle.geometry.specs.Refusal.{Answer, accepted, refused, Check, answer, ch
 use Rattle.geometry.specs.Checks.{badSign}
 use Rattle.geometry.proofs.Refusals.{split, applies, passes, first-passes, passes-alone, in-turn}
 use Rattle.voxels.specs.Voxel.{class}
-use Rattle.voxels.specs.Extent.{every}
+use Rattle.voxels.specs.Loop.{looped, every}
 use Rattle.voxels.specs.Checks.{atPlace, badFacesFrom}
 use Rattle.voxels.specs.Inner.{badAt}
 
@@ -27,7 +27,7 @@ done k n h = omega arith
 module _ (d : ℕ) (g : ℕ → List Check) (i k n : ℕ) {t : Answer (Unit {0})} (left : checked (every d i (n - k) g) ≡ t) where
   -- Those at hand decide, or the rest does.
   pub ask-next : k < n → follow (checked (g i)) (checked (every d (i + d) (n - (k + 1)) g)) ≡ t
-  unfolding every
+  unfolding looped
   ask-next h = sym (in-turn (g i) (every d (i + d) (n - (k + 1)) g) tt) ∙ rw (more k n h) at left
 
   -- Where they pass the loop goes on,
@@ -40,7 +40,7 @@ module _ (d : ℕ) (g : ℕ → List Check) (i k n : ℕ) {t : Answer (Unit {0})
 
   -- and at its end nothing is refused.
   pub ask-done : n ≤ k → accepted tt ≡ t
-  unfolding every answer
+  unfolding looped answer
   ask-done h = rw (done k n h) at left
 
 -- The loop's start.

@@ -10,7 +10,7 @@ use borrow.Author.Tests.{eqb-true, eqb-false}
 use Rattle.geometry.specs.Refusal.{accepted, answer, checked}
 use Rattle.geometry.proofs.Refusals.{split}
 use Rattle.voxels.specs.Voxel.{class}
-use Rattle.voxels.specs.Extent.{every}
+use Rattle.voxels.specs.Loop.{looped, every}
 use Rattle.voxels.specs.Inner.{mostVoxels, badAt, row, rows, AtMost, RowLent, RowsLent}
 use Rattle.voxels.proofs.Orders.{part-passes}
 use Rattle.voxels.proofs.Asked.{good-here}
@@ -19,7 +19,7 @@ use Rattle.voxels.proofs.Asked.{good-here}
 
 -- A row is its first voxels, and then the others.
 row-parts : {A : Type 0} (g : ℕ → List A) (m n i : ℕ) → every 1 i (m + n) g ≡ every 1 i m g ++ every 1 (i + m) n g
-unfolding every
+unfolding looped
 row-parts g zero n i = rw (zero-add, add-zero)
 row-parts g (suc m) n i =
     let e : i + suc m ≡ i + 1 + m = omega arith in
@@ -27,7 +27,7 @@ row-parts g (suc m) n i =
 
 -- So rows that touch are one row.
 rows-touch : {A : Type 0} (g : ℕ → List A) (wide high i : ℕ) → row g (wide * high) i ≡ rows g wide wide high i
-unfolding row rows every
+unfolding row rows looped
 rows-touch g wide zero i = rw mul-zero
 rows-touch g wide (suc high) i =
     let e : wide * suc high ≡ wide + wide * high = omega arith in
@@ -56,7 +56,7 @@ most-on vs i k most next low grown here j l =
 
 -- A row passes where no voxel of it is greater than one that is not bad.
 pub low-passes : (vs : List ℕ) (most wide i : ℕ) {c : ℕ} → c ≡ class most → c < 3 → AtMost vs i wide most → checked (row (badAt vs) wide i) ≡ accepted tt
-unfolding row every answer class
+unfolding row looped answer class
 low-passes vs most zero i is good low = refl
 low-passes vs most (suc wide) i is good low =
     let first : getD vs i 0 ≤ most = rw add-zero at (low 0 (omega arith)) in

@@ -9,11 +9,12 @@ use native.Mathlib.Omega.{arith}
 use Rattle.geometry.specs.declared.axis.Axis.the-variants.{X, Y, Z}
 use Rattle.geometry.specs.Point.{Point, at, along}
 use Rattle.geometry.proofs.Refusals.{split}
-use Rattle.voxels.specs.declared.extent.Extent.{Extent}
 use Rattle.voxels.specs.Shape.{index, stride}
-use Rattle.voxels.specs.Extent.{Inside, every, upTo, scan, those, Each}
-use Rattle.voxels.specs.Inner.{gathered, kept, row, rows, slices, inStep}
+use Rattle.voxels.specs.Extent.{Inside, upTo, scan, those, Each}
+use Rattle.voxels.specs.Loop.{looped, every, inStep}
+use Rattle.voxels.specs.Inner.{gathered, kept, row, rows, slices}
 use Rattle.voxels.proofs.Places.{index-at}
+use Rattle.voxels.specs.declared.extent.Extent.{Extent}
 
 -- ---- what is gathered from a list
 
@@ -35,12 +36,12 @@ gathered-append f [] m = refl
 gathered-append f (a ∷ l) m = rw (gathered-append f l m) (sym (append-assoc (f a) (gathered f l) (gathered f m)))
 
 gathered-every : {A B : Type 0} (f : A → List B) (d : ℕ) (g : ℕ → List A) (a n : ℕ) → gathered f (every d a n g) ≡ every d a n (λ (k : ℕ). gathered f (g k))
-unfolding gathered every
+unfolding gathered looped
 gathered-every f d g a zero = refl
 gathered-every f d g a (suc n) = gathered-append f (g a) (every d (a + d) n g) ∙ ap (λ (r : List _). gathered f (g a) ++ r) (gathered-every f d g (a + d) n)
 
 pub each-same : {A : Type 0} (g h : ℕ → List A) (a n : ℕ) → ((k : ℕ) → g k ≡ h k) → every 1 a n g ≡ every 1 a n h
-unfolding every
+unfolding looped
 each-same g h a zero same = refl
 each-same g h a (suc n) same = rw (same a, each-same g h (a + 1) n same)
 
@@ -48,7 +49,7 @@ each-same g h a (suc n) same = rw (same a, each-same g h (a + 1) n same)
 
 -- Where the k-th of one gives what the k-th of the other gives, the loops give the same.
 pub every-same : {A : Type 0} (c d : ℕ) (g h : ℕ → List A) (n a b : ℕ) → ((k : ℕ) → k < n → g (a + k * c) ≡ h (b + k * d)) → every c a n g ≡ every d b n h
-unfolding every
+unfolding looped
 every-same c d g h zero a b same = refl
 every-same c d g h (suc n) a b same =
     let first : g a ≡ h b = rw (zero-mul, zero-mul, add-zero, add-zero) at (same 0 (omega arith)) in
@@ -60,7 +61,7 @@ every-same c d g h (suc n) a b same =
 
 -- A loop over a coordinate gives what a loop over it and an index a stride apart gives.
 pub every-in-step : {A : Type 0} (d : ℕ) (h : ℕ → List A) (g : ℕ → ℕ → List A) (n a i : ℕ) → ((k : ℕ) → k < n → h (a + k) ≡ g (a + k) (i + k * d)) → every 1 a n h ≡ inStep d g a i n
-unfolding every inStep
+unfolding looped
 every-in-step d h g zero a i same = refl
 every-in-step d h g (suc n) a i same =
     let first : h a ≡ g a i = rw (zero-mul, add-zero, add-zero) at (same 0 (omega arith)) in
@@ -126,7 +127,7 @@ module _ {A : Type 0} (P : A → Type 0) where
 
   -- A loop gives what holds of each where each of its lists does,
   pub each-every : (g : ℕ → List A) (n a : ℕ) → ((k : ℕ) → k < n → Each P (g (a + k))) → Each P (every 1 a n g)
-  unfolding every Each
+  unfolding looped Each
   each-every g zero a h = tt
   each-every g (suc n) a h =
       each-append (g a) (every 1 (a + 1) n g) (rw add-zero at (h 0 (omega arith)))
@@ -134,7 +135,7 @@ module _ {A : Type 0} (P : A → Type 0) where
 
   -- and only there.
   pub every-each : (g : ℕ → List A) (n a : ℕ) → Each P (every 1 a n g) → (k : ℕ) → k < n → Each P (g (a + k))
-  unfolding every
+  unfolding looped
   every-each g zero a h k l = absurd (not-suc-le-zero l)
   every-each g (suc n) a h zero l = rw add-zero (each-left (g a) (every 1 (a + 1) n g) h)
   every-each g (suc n) a h (suc k) l = let e : a + suc k ≡ a + 1 + k = omega arith in rw e (every-each g n (a + 1) (each-right (g a) (every 1 (a + 1) n g) h) k (omega arith))

@@ -13,9 +13,10 @@ use Rattle.geometry.specs.Point.{Point, at, along}
 use Rattle.geometry.specs.Axes.{bit}
 use Rattle.geometry.proofs.Refusals.{split}
 use Rattle.geometry.proofs.Tests.{both-true}
-use Rattle.voxels.specs.declared.extent.Extent.{Extent}
-use Rattle.voxels.specs.Extent.{Inside, every, scan, those, Each, between, inside, samePoint, times, howMany}
+use Rattle.voxels.specs.Extent.{Inside, scan, those, Each, between, inside, samePoint, times, howMany}
+use Rattle.voxels.specs.Loop.{looped, every}
 use Rattle.voxels.proofs.Scan.{each-every, each-up, scan-inside}
+use Rattle.voxels.specs.declared.extent.Extent.{Extent}
 
 -- ---- tests
 
@@ -71,7 +72,7 @@ module _ (p : Point) where
 
   -- In a loop whose lists have the point at one number alone, it stands as often as there.
   times-one : (g : ℕ → List Point) (q : ℕ) → ((k : ℕ) → (k ≡ q → ⊥) → times p (g k) ≡ 0) → (n a : ℕ) → a ≤ q → q < a + n → times p (every 1 a n g) ≡ times p (g q)
-  unfolding every times
+  unfolding looped times
   times-one g q off zero a l h = let none : ⊥ = omega arith in absurd none
   times-one g q off (suc n) a l h =
       times-append (g a) (every 1 (a + 1) n g)

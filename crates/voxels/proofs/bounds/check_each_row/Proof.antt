@@ -6,7 +6,7 @@ use native.Mathlib.Nat.{zero-mul}
 use native.Mathlib.Omega.{arith}
 use Rattle.geometry.specs.Refusal.{checked}
 use Rattle.voxels.specs.Answers.{entryCheckMeaning}
-use Rattle.voxels.specs.Extent.{every}
+use Rattle.voxels.specs.Loop.{every}
 use Rattle.voxels.specs.Inner.{badAt, row, rows}
 use Rattle.voxels.proofs.Asked.{ask-start, ask-on, ask-stops, ask-done}
 use Rattle.voxels.proofs.Places.{next-at, below-last}
