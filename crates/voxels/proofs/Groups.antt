@@ -9,7 +9,7 @@ use lib.Seq.{length-take-le, take-all}
 use Rattle.geometry.specs.Refusal.{accepted, refused}
 use Rattle.voxels.specs.Listing.{joined, capacity, lay}
 use Rattle.voxels.specs.Inner.{Output, output, pushed, pushedAll, MadeGroups}
-use Rattle.voxels.proofs.Asked.{more, done}
+use Rattle.voxels.proofs.Loops.{more, done}
 use Rattle.voxels.proofs.Pushed.{set-after, pushed-append, pushed-counts, all-laid, lay-many, lay-fits}
 
 -- One more of a list.

@@ -1,11 +1,11 @@
 -- Loops: where one stands, and the laws of the one fold `looped`, whatever it joins. Lists end to end, sums, and what is done to a state are its instances.
 use mathlib.Core.List.{List, [], _++_, append-nil, append-assoc}
-use mathlib.Core.Path.{_≡_, refl, sym, _∙_, ap}
+use mathlib.Core.Path.{_≡_, refl, _∙_}
 use Prim.Native.Nat.{ℕ, zero, suc, _+_, _-_, _*_, _≤_, _<_}
 use native.Mathlib.Nat.{add-zero, zero-add, add-assoc, sub-zero, suc-add, zero-mul, suc-mul, add-mul, one-mul, add-le-add, mul-le-mul-right, not-suc-le-zero}
 use native.Mathlib.Omega.{arith}
 use lib.ListN.{length, length-append}
-use Rattle.voxels.specs.Loop.{looped, stepBy, every, summed, Stand, stand, onBy, inStep, andNext, steps}
+use Rattle.voxels.specs.Loop.{looped, stepBy, Stand, stand, onBy, andNext, steps}
 
 -- ---- where a loop stands
 

@@ -4,7 +4,6 @@ use mathlib.Core.Path.{_≡_}
 use Prim.Native.Nat.{_-_, _≤_}
 use native.Mathlib.Nat.{add-sub-cancel-left}
 use native.Mathlib.Omega.{arith}
-use lib.ListN.{length}
 use Rattle.geometry.specs.Refusal.{checked}
 use Rattle.voxels.specs.Loop.{every}
 use Rattle.voxels.specs.Inner.{badAt, row}
