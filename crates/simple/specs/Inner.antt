@@ -14,7 +14,8 @@ use Rattle.voxels.specs.Voxel.{class, shows}
 use Rattle.voxels.specs.Listing.{Laid}
 use Rattle.voxels.specs.Shape.{stride}
 use Rattle.voxels.specs.Visible.{modulus, visibilityOffset, offsetIndex}
-use Rattle.voxels.specs.Inner.{mostVoxels, longest, keptIf, inStep, output, pushedAll}
+use Rattle.voxels.specs.Loop.{summed, inStep}
+use Rattle.voxels.specs.Inner.{mostVoxels, longest, keptIf, output, pushedAll}
 use Rattle.simple.specs.Unit.{unitNumbers, numbersOf, unitAnswer, UnitOutcome, outcome}
 
 -- What stands past the end of a list of faces.
@@ -53,26 +54,21 @@ slicesQuads voxels offset x wide y d high z e deep i = inStep e (sliceQuads voxe
 
 -- ---- what the loops count, by indices
 
--- What `g` gives at an index, at the index a stride on, .., so many of them, summed.
-unfoldable pub total : (ℕ → ℕ) → ℕ → ℕ → ℕ → ℕ
-total g d i zero = 0
-total g d i (suc n) = g i + total g d (i + d) n
-
 -- 1 where the voxel at an index shows its face to the one that an offset leads to, else 0.
 unfoldable pub shownAt : List ℕ → ℕ → ℕ → ℕ
 shownAt voxels offset i = bit (showsAt voxels offset i)
 
 -- How many voxels of a row do, from its length and its first index.
 unfoldable pub rowShown : List ℕ → ℕ → ℕ → ℕ → ℕ
-rowShown voxels offset wide i = total (shownAt voxels offset) 1 i wide
+rowShown voxels offset wide i = summed (shownAt voxels offset) 1 i wide
 
 -- How many of so many rows, a stride apart.
 unfoldable pub sliceShown : List ℕ → ℕ → ℕ → ℕ → ℕ → ℕ → ℕ
-sliceShown voxels offset wide d high i = total (rowShown voxels offset wide) d i high
+sliceShown voxels offset wide d high i = summed (rowShown voxels offset wide) d i high
 
 -- How many of so many slices, a stride apart.
 unfoldable pub slicesShown : List ℕ → ℕ → ℕ → ℕ → ℕ → ℕ → ℕ → ℕ → ℕ
-slicesShown voxels offset wide d high e deep i = total (sliceShown voxels offset wide d high) e i deep
+slicesShown voxels offset wide d high e deep i = summed (sliceShown voxels offset wide d high) e i deep
 
 -- ---- where the loops list: a run of quads for each face, the runs apart from each other
 

@@ -1,6 +1,6 @@
 -- Loops: where one stands, and the laws of the one fold `looped`, whatever it joins. Lists end to end, sums, and what is done to a state are its instances.
 use mathlib.Core.List.{List, [], _++_, append-nil, append-assoc}
-use mathlib.Core.Path.{_≡_, refl, _∙_}
+use mathlib.Core.Path.{_≡_, refl, sym, _∙_, ap}
 use Prim.Native.Nat.{ℕ, zero, suc, _+_, _-_, _*_, _≤_, _<_}
 use native.Mathlib.Nat.{add-zero, zero-add, add-assoc, sub-zero, suc-add, zero-mul, suc-mul, add-mul, one-mul, add-le-add, mul-le-mul-right, not-suc-le-zero}
 use native.Mathlib.Omega.{arith}
@@ -17,6 +17,14 @@ more k n h = omega arith
 pub done : (k n : ℕ) → n ≤ k → n - k ≡ zero
 done k n h = omega arith
 
+-- A stride more is one stride more,
+pub stride-more : (k d : ℕ) → k * d + d ≡ (k + 1) * d
+stride-more k d = omega (arith, add-mul k 1 d, one-mul d)
+
+-- and not past the last, while there is one.
+pub stride-fits : (k n d : ℕ) → k < n → k * d + d ≤ n * d
+stride-fits k n d h = omega (arith, stride-more k d, mul-le-mul-right {m = k + 1} {n = n} d (omega arith))
+
 -- A loop, k of n done: from the index i on it stands k strides further, at j.
 pub record Underway (d i n k j : ℕ) : Type 0 where
   pub within : k ≤ n
@@ -30,7 +38,7 @@ module _ {d i n : ℕ} where
   module _ {k j : ℕ} (l : Underway d i n k j) where
     -- goes on,
     pub underway-on : k < n → Underway d i n (k + 1) (j + d)
-    underway-on h = record { within = omega arith; place = omega (arith, l .place, add-mul k 1 d, one-mul d) }
+    underway-on h = record { within = omega arith; place = omega (arith, l .place, stride-more k d) }
 
     -- and ends.
     pub underway-done : n ≤ k → k ≡ n
@@ -42,7 +50,7 @@ module _ {d i n : ℕ} where
 
     -- and so does the next index, while there is one.
     pub next-fits : k < n → {all : ℕ} → i + n * d ≤ all → j + d ≤ all
-    next-fits h fits = omega (arith, l .place, add-mul k 1 d, one-mul d, mul-le-mul-right {m = k + 1} {n = n} d (omega arith))
+    next-fits h fits = omega (arith, l .place, stride-fits k n d h)
 
 -- The place that is k steps on from p.
 unfoldable pub onward : {P : Type 0} → (P → P) → P → ℕ → P
@@ -153,6 +161,17 @@ module _ {P B : Type 0} {none : B} {join : B → B → B} (joins : Joins none jo
   unfolding looped
   loop-more k p = rw (loop-parts k 1 p, joins .right)
 
+-- The same of a loop by a stride, k of n done: what is made so far and what is left make the whole,
+module _ {B : Type 0} {none : B} {join : B → B → B} (joins : Joins none join) (g : ℕ → B) {d i n k j : ℕ} (l : Underway d i n k j) where
+  pub underway-whole : join (looped none join (stepBy d) g i k) (looped none join (stepBy d) g j (n - k)) ≡ looped none join (stepBy d) g i n
+  underway-whole =
+      let all : k + (n - k) ≡ n = omega (arith, l .within) in
+      rw (l .place, ← onward-by d i k) (sym (rw all at (loop-parts joins (stepBy d) g k (n - k) i)))
+
+  -- and with one more it is what is made here.
+  pub underway-more : looped none join (stepBy d) g i (k + 1) ≡ join (looped none join (stepBy d) g i k) (g j)
+  underway-more = rw (l .place, ← onward-by d i k) (loop-more joins (stepBy d) g k i)
+
 -- ---- lists
 
 -- Lists end to end are as long as each is, summed.
@@ -193,14 +212,28 @@ module _ {P S : Type 0} (next : P → P) (make : P → S → S) where
   states-reach K L (suc n) p keep both (suc m) h makes s holds =
       states-reach K L n (next p) (λ k l. keep (suc k) (omega arith)) (λ k l. both (suc k) (omega arith)) m (omega arith) makes (make p s) (keep 0 (omega arith) s holds)
 
--- The same of steps by a coordinate and an index.
+-- Steps by a coordinate and an index.
 module _ {S : Type 0} (d : ℕ) (act : S → ℕ → ℕ → S) where
   abbrev here : Stand → S → S
   here p s = act s (p .coordinate) (p .index)
 
+  -- k of n done: all is left,
+  pub steps-start : (s : S) (a i n : ℕ) → steps d act s (a + 0) i (n - 0) ≡ steps d act s a i n
+  steps-start s a i n = ap (λ (f : S → S). f s) (both-start (λ (s : S). s) andNext d here a i n)
+
+  -- a step is made, and the rest is left,
+  pub steps-on : (s s′ t : S) (a i k n : ℕ) → k < n → s′ ≡ act s (a + k) i → steps d act s (a + k) i (n - k) ≡ t → steps d act s′ (a + (k + 1)) (i + d) (n - (k + 1)) ≡ t
+  steps-on s s′ t a i k n h is e = rw is (sym (ap (λ (f : S → S). f s) (both-next (λ (s : S). s) andNext d here a i k n h)) ∙ e)
+
+  -- or nothing is.
+  pub steps-done : (s t : S) (a i k n : ℕ) → n ≤ k → steps d act s (a + k) i (n - k) ≡ t → s ≡ t
+  steps-done s t a i k n h e = sym (ap (λ (f : S → S). f s) (loop-none (λ (s : S). s) andNext (onBy d) here (stand (a + k) i) k n h)) ∙ e
+
+  -- What each step keeps the loop keeps,
   pub steps-keep : (K : S → Type 0) (n a i : ℕ) (s : S) → ((k : ℕ) (s : S) → k < n → K s → K (act s (a + k) (i + k * d))) → K s → K (steps d act s a i n)
   steps-keep K n a i s keep = states-keep (onBy d) here K n (stand a i) (λ k l. rw (onward-both d a i k) (λ s. keep k s l)) s
 
+  -- and what the m-th makes so, and each keeps, is so after it.
   pub steps-reach : (K L : S → Type 0) (n a i : ℕ) (s : S)
       → ((k : ℕ) (s : S) → k < n → K s → K (act s (a + k) (i + k * d)))
       → ((k : ℕ) (s : S) → k < n → K s × L s → K (act s (a + k) (i + k * d)) × L (act s (a + k) (i + k * d)))
