@@ -5,7 +5,7 @@ use mathlib.Core.Path.{_≡_, refl}
 use Prim.Native.Nat.{ℕ, zero, suc, _+_, _*_, _≤_, _<_}
 use native.Mathlib.Nat.{zero-add, suc-add, zero-mul, suc-mul, mul-one}
 use native.Mathlib.Omega.{arith}
-use lib.ListN.{length, getD, length-append}
+use lib.ListN.{length, getD}
 use Rattle.geometry.specs.Axes.{bit}
 use Rattle.geometry.specs.Point.{at}
 use Rattle.geometry.proofs.Tests.{bit-at-most}
@@ -13,7 +13,7 @@ use Rattle.voxels.specs.Voxel.{shows}
 use Rattle.voxels.specs.Visible.{offsetIndex}
 use Rattle.voxels.specs.Loop.{looped, stepBy, summed, stand, onBy, inStep}
 use Rattle.voxels.specs.Inner.{keptIf}
-use Rattle.voxels.proofs.Loops.{onward-by, onward-both, loop-carried, sums-join, loop-parts, loop-more, sum-at-most}
+use Rattle.voxels.proofs.Loops.{onward-by, onward-both, sums-join, loop-parts, loop-more, loop-length, sum-at-most}
 use Rattle.simple.specs.Inner.{showsAt, voxelQuad, rowQuads, sliceQuads, slicesQuads, shownAt, rowShown, sliceShown, slicesShown, RowReady}
 use Rattle.simple.proofs.Neighbours.{beyond-at}
 
@@ -62,7 +62,7 @@ module _ (vs : List ℕ) (o : ℕ) where
 
 -- As many as each index has, summed.
 pub in-step-length : {A : Type 0} (d : ℕ) (g : ℕ → ℕ → List A) (h : ℕ → ℕ) → ((a i : ℕ) → length (g a i) ≡ h i) → (n a i : ℕ) → length (inStep d g a i n) ≡ summed h d i n
-in-step-length d g h is n a i = loop-carried _+_ length refl length-append (onBy d) _ (stepBy d) h n (stand a i) i (λ k l. rw (onward-both d a i k, onward-by d i k) (is (a + k) (i + k * d)))
+in-step-length d g h is n a i = loop-length (onBy d) _ (stepBy d) h n (stand a i) i (λ k l. rw (onward-both d a i k, onward-by d i k) (is (a + k) (i + k * d)))
 
 -- What is kept is one or none.
 kept-length : {A : Type 0} (b : Bool) (a : A) → length (keptIf b a) ≡ bit b

@@ -17,11 +17,11 @@ more k n h = omega arith
 pub done : (k n : ℕ) → n ≤ k → n - k ≡ zero
 done k n h = omega arith
 
--- A stride more is one stride more,
+-- k strides and one are k + 1,
 pub stride-more : (k d : ℕ) → k * d + d ≡ (k + 1) * d
 stride-more k d = omega (arith, add-mul k 1 d, one-mul d)
 
--- and not past the last, while there is one.
+-- and no more than n where k is below n.
 pub stride-fits : (k n d : ℕ) → k < n → k * d + d ≤ n * d
 stride-fits k n d h = omega (arith, stride-more k d, mul-le-mul-right {m = k + 1} {n = n} d (omega arith))
 
@@ -57,13 +57,13 @@ unfoldable pub onward : {P : Type 0} → (P → P) → P → ℕ → P
 onward next p zero = p
 onward next p (suc k) = onward next (next p) k
 
--- By a stride,
+-- It is k strides on where each step is a stride,
 pub onward-by : (d i k : ℕ) → onward (stepBy d) i k ≡ i + k * d
 unfolding onward
 onward-by d i zero = omega (arith, zero-mul d)
 onward-by d i (suc k) = onward-by d (i + d) k ∙ omega (arith, suc-mul k d)
 
--- and with a coordinate beside it.
+-- and with a coordinate beside the index that is k further.
 pub onward-both : (d a i k : ℕ) → onward (onBy d) (stand a i) k ≡ stand (a + k) (i + k * d)
 unfolding onward
 onward-both d a i zero = rw (zero-mul, add-zero, add-zero)
@@ -89,11 +89,13 @@ module _ {P B : Type 0} (none : B) (join : B → B → B) (next : P → P) (g : 
   unfolding looped
   loop-none k n h = rw (done k n h)
 
--- The same with a coordinate and an index.
+-- The same with a coordinate a, which is a + k by then.
 module _ {B : Type 0} (none : B) (join : B → B → B) (d : ℕ) (g : Stand → B) (a j : ℕ) where
+  -- All is left,
   pub both-start : (n : ℕ) → looped none join (onBy d) g (stand (a + 0) j) (n - 0) ≡ looped none join (onBy d) g (stand a j) n
   both-start n = rw (sub-zero, add-zero)
 
+  -- then what is made next and the rest.
   pub both-next : (k n : ℕ) → k < n → looped none join (onBy d) g (stand (a + k) j) (n - k) ≡ join (g (stand (a + k) j)) (looped none join (onBy d) g (stand (a + (k + 1)) (j + d)) (n - (k + 1)))
   both-next k n h = rw (← add-assoc a k 1) (loop-next none join (onBy d) g (stand (a + k) j) k n h)
 
@@ -133,7 +135,7 @@ loop-gives none K parts next g (suc n) p all (suc k) l = loop-gives none K parts
 
 -- ---- a loop in two parts
 
--- Nothing, joined with a value, leaves it, and joins may be made in either order.
+-- Nothing, joined with a value on either side, leaves it, and of three it is the same which two are joined first.
 pub record Joins {B : Type 0} (none : B) (join : B → B → B) : Type 0 where
   pub left : (x : B) → join none x ≡ x
   pub right : (x : B) → join x none ≡ x
@@ -150,33 +152,35 @@ pub states-join : {S : Type 0} → Joins {B = S → S} (λ (s : S). s) andNext
 states-join = record { left = λ x. refl; right = λ x. refl; assoc = λ x y z. refl }
 
 module _ {P B : Type 0} {none : B} {join : B → B → B} (joins : Joins none join) (next : P → P) (g : P → B) where
-  -- A loop is its first so many, and then the others.
+  -- A loop is its first so many, joined with the others,
   pub loop-parts : (m n : ℕ) (p : P) → looped none join next g p (m + n) ≡ join (looped none join next g p m) (looped none join next g (onward next p m) n)
   unfolding looped onward
   loop-parts zero n p = rw (zero-add, joins .left)
   loop-parts (suc m) n p = rw (suc-add m n, loop-parts m n (next p), joins .assoc)
 
-  -- With one more,
+  -- and a loop of one more is joined with what is made there.
   pub loop-more : (k : ℕ) (p : P) → looped none join next g p (k + 1) ≡ join (looped none join next g p k) (g (onward next p k))
   unfolding looped
   loop-more k p = rw (loop-parts k 1 p, joins .right)
 
--- The same of a loop by a stride, k of n done: what is made so far and what is left make the whole,
+-- The same of a loop by a stride, k of n done.
 module _ {B : Type 0} {none : B} {join : B → B → B} (joins : Joins none join) (g : ℕ → B) {d i n k j : ℕ} (l : Underway d i n k j) where
+  -- What is made so far and what is left make the whole,
   pub underway-whole : join (looped none join (stepBy d) g i k) (looped none join (stepBy d) g j (n - k)) ≡ looped none join (stepBy d) g i n
   underway-whole =
       let all : k + (n - k) ≡ n = omega (arith, l .within) in
       rw (l .place, ← onward-by d i k) (sym (rw all at (loop-parts joins (stepBy d) g k (n - k) i)))
 
-  -- and with one more it is what is made here.
+  -- and one more is joined with what is made here.
   pub underway-more : looped none join (stepBy d) g i (k + 1) ≡ join (looped none join (stepBy d) g i k) (g j)
   underway-more = rw (l .place, ← onward-by d i k) (loop-more joins (stepBy d) g k i)
 
 -- ---- lists
 
 -- Lists end to end are as long as each is, summed.
-pub loop-length : {P A : Type 0} (next : P → P) (g : P → List A) (n : ℕ) (p : P) → length (looped [] _++_ next g p n) ≡ looped 0 _+_ next (λ (p : P). length (g p)) p n
-loop-length next g n p = loop-carried _+_ length refl length-append next g next (λ (p : _). length (g p)) n p p (λ k l. refl)
+pub loop-length : {P Q A : Type 0} (next : P → P) (g : P → List A) (next′ : Q → Q) (h : Q → ℕ) (n : ℕ) (p : P) (q : Q)
+    → ((k : ℕ) → k < n → length (g (onward next p k)) ≡ h (onward next′ q k)) → length (looped [] _++_ next g p n) ≡ looped 0 _+_ next′ h q n
+loop-length = loop-carried _+_ length refl length-append
 
 -- ---- sums
 
@@ -193,7 +197,7 @@ module _ {P : Type 0} (next : P → P) where
 
 -- ---- states
 
--- What holds of a state holds after something is done to it.
+-- What holds of a state before something is done to it holds after it too.
 abbrev Keeps : {S : Type 0} → (S → Type 0) → (S → S) → Type 0
 Keeps {S} K f = (s : S) → K s → K (f s)
 
@@ -212,12 +216,12 @@ module _ {P S : Type 0} (next : P → P) (make : P → S → S) where
   states-reach K L (suc n) p keep both (suc m) h makes s holds =
       states-reach K L n (next p) (λ k l. keep (suc k) (omega arith)) (λ k l. both (suc k) (omega arith)) m (omega arith) makes (make p s) (keep 0 (omega arith) s holds)
 
--- Steps by a coordinate and an index.
+-- Steps by a coordinate and an index, k of n done.
 module _ {S : Type 0} (d : ℕ) (act : S → ℕ → ℕ → S) where
   abbrev here : Stand → S → S
   here p s = act s (p .coordinate) (p .index)
 
-  -- k of n done: all is left,
+  -- All is left,
   pub steps-start : (s : S) (a i n : ℕ) → steps d act s (a + 0) i (n - 0) ≡ steps d act s a i n
   steps-start s a i n = ap (λ (f : S → S). f s) (both-start (λ (s : S). s) andNext d here a i n)
 
