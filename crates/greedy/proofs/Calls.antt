@@ -6,7 +6,8 @@ use Rattle.geometry.specs.Axes.{same}
 use Rattle.geometry.specs.Checks.{properSign}
 use Rattle.voxels.specs.Voxel.{class, mergeValue, shows, uniform}
 use Rattle.voxels.specs.Shape.{size, index, field}
-use Rattle.voxels.specs.Extent.{every, scan, Each}
+use Rattle.voxels.specs.Extent.{scan, Each}
+use Rattle.voxels.specs.Loop.{looped}
 use Rattle.voxels.specs.Checks.{boundsChecks, badAxis, badFacesFrom, badVoxels}
 use Rattle.listing.specs.Listing.{joined, overwritten, capacity, lay}
 use Rattle.listing.specs.Outcome.{listedAfter}
@@ -19,5 +20,5 @@ use Rattle.greedy.specs.Greedy.{listedGroups, greedyFrom, greedyQuads}
 use Rattle.greedy.specs.Calls.{call, CallIs, numbersOfAll, calls}
 
 pub calls-hold : Each CallIs calls
-unfolding calls Each CallIs numbersOfAll call block greedyQuads greedyFrom listedGroups listedAfter lay joined overwritten capacity boundsChecks badAxis badFacesFrom badVoxels greedyGroup greedyTests group swept scanned passes visited contains among sweep sliceAt voxelMerger rowsWalk rowWalk follows visible stepped scan every field index size class mergeValue shows uniform along put moved answer properSign same
+unfolding calls Each CallIs numbersOfAll call block greedyQuads greedyFrom listedGroups listedAfter lay joined overwritten capacity boundsChecks badAxis badFacesFrom badVoxels greedyGroup greedyTests group swept scanned passes visited contains among sweep sliceAt voxelMerger rowsWalk rowWalk follows visible stepped scan looped field index size class mergeValue shows uniform along put moved answer properSign same
 calls-hold = (refl, (refl, (refl, (refl, tt))))

@@ -1,39 +1,26 @@
--- Loops over a coordinate and an index a stride apart: what is done and what is left make the whole. And what a scanned voxel leaves.
+-- Loops that scan by a coordinate and an index: what is scanned and what is left make the whole. And what a scanned voxel leaves.
 use mathlib.Core.Bool.{Bool, true, false}
 use mathlib.Core.List.{List, _++_}
 use mathlib.Core.Path.{_≡_, refl, _∙_, ap}
 use Prim.Native.Nat.{ℕ, zero, suc, _+_, _-_, _*_, _≤_, _<_}
-use native.Mathlib.Nat.{add-zero, add-assoc, sub-zero, zero-mul, suc-mul, mul-le-mul-right}
+use native.Mathlib.Nat.{add-zero, zero-mul, suc-mul, mul-le-mul-right}
 use native.Mathlib.Omega.{arith}
 use lib.Dec.{eqb}
 use lib.ListN.{length, getD, drop, replicate, length-replicate}
 use Rattle.geometry.specs.Point.{Point}
 use Rattle.geometry.proofs.Refusals.{split}
 use Rattle.voxels.specs.Inner.{longest}
-use Rattle.voxels.proofs.Asked.{more, done}
-use Rattle.voxels.proofs.Places.{next-at, below-last}
+use Rattle.voxels.specs.Loop.{stepBy, steps}
+use Rattle.voxels.proofs.Loops.{Underway, underway-start, underway-on, underway-done, stride-more, stride-fits, steps-start, steps-on, steps-done}
 use Rattle.listing.specs.Pushed.{Output, output, pushed}
 use Rattle.listing.specs.Listing.{overwritten}
 use Rattle.listing.proofs.Pushed.{pushed-counts}
 use Rattle.rules.specs.Group.{Pick}
 use Rattle.rules.specs.Merger.{Walked}
 use Rattle.greedy.specs.Greedy.{listed, quadNumbers, numbersOf}
-use Rattle.greedy.specs.Inner.{walked, walkedRows, stepBy, needsAt, joinsAt, Touches, rowAt, quadAt, QuadReady, RowMarked, QuadMarked, steps, markQuadAt, Scanned, progress, roomTo, laidBy, laidAt, scannedAt, SpotReady, voxelTests, Made}
+use Rattle.greedy.specs.Inner.{walked, walkedRows, needsAt, joinsAt, Touches, rowAt, quadAt, QuadReady, RowMarked, QuadMarked, markQuadAt, Scanned, progress, roomTo, laidBy, laidAt, scannedAt, SpotReady, voxelTests, Made}
 use Rattle.greedy.proofs.Walks.{walked-at-most, row-at-most, row-less, first-row}
 use Rattle.greedy.specs.declared.face_scan.FaceScan.{FaceScan}
-
--- A loop, k of n done.
-module _ {S : Type 0} (d : ℕ) (act : S → ℕ → ℕ → S) where
-  pub steps-start : (s : S) (a i n : ℕ) → steps d act s (a + 0) i (n - 0) ≡ steps d act s a i n
-  steps-start s a i n = rw (sub-zero, add-zero)
-
-  pub steps-on : (s s′ t : S) (a i k n : ℕ) → k < n → s′ ≡ act s (a + k) i → steps d act s (a + k) i (n - k) ≡ t → steps d act s′ (a + (k + 1)) (i + d) (n - (k + 1)) ≡ t
-  unfolding steps
-  steps-on s s′ t a i k n h is e = rw (is, ← add-assoc a k 1) (rw (more k n h) at e)
-
-  pub steps-done : (s t : S) (a i k n : ℕ) → n ≤ k → steps d act s (a + k) i (n - k) ≡ t → s ≡ t
-  unfolding steps
-  steps-done s t a i k n h e = rw (done k n h) at e
 
 -- Marks that are cleared to the end.
 pub cleared : (n i : ℕ) (marks was : List ℕ) → n ≤ i → i ≤ n → marks ≡ replicate i 0 ++ drop i was → marks ≡ overwritten (replicate n 0) was
@@ -149,9 +136,8 @@ module _ (vs marks out : List ℕ) (c : FaceScan) (p : Point) (i n t : ℕ) wher
 -- ---- a scan underway
 
 -- A loop that scans, k of n done: it stands at the index j, its buffers are as long as they were, each turn took at most so many tests, and what is made and what is left make the whole.
-pub record Underway (act : Scanned → ℕ → ℕ → Scanned) (most d a i n : ℕ) (marks₀ out₀ : List ℕ) (n₀ t₀ : ℕ) (marks out : List ℕ) (listed tests k j : ℕ) : Type 0 where
-  pub within : k ≤ n
-  pub place : j ≡ i + k * d
+pub record Scanning (act : Scanned → ℕ → ℕ → Scanned) (most d a i n : ℕ) (marks₀ out₀ : List ℕ) (n₀ t₀ : ℕ) (marks out : List ℕ) (listed tests k j : ℕ) : Type 0 where
+  pub at : Underway d i n k j
   pub marks-long : length marks ≡ length marks₀
   pub out-long : length out ≡ length out₀
   pub few : listed ≤ tests
@@ -159,11 +145,10 @@ pub record Underway (act : Scanned → ℕ → ℕ → Scanned) (most d a i n : 
   pub whole : steps d act (progress marks out listed tests) (a + k) j (n - k) ≡ steps d act (progress marks₀ out₀ n₀ t₀) a i n
 
 module _ {act : Scanned → ℕ → ℕ → Scanned} {most d a i n : ℕ} {marks₀ out₀ : List ℕ} {n₀ t₀ : ℕ} where
-  pub scan-start : n₀ ≤ t₀ → Underway act most d a i n marks₀ out₀ n₀ t₀ marks₀ out₀ n₀ t₀ 0 i
+  pub scan-start : n₀ ≤ t₀ → Scanning act most d a i n marks₀ out₀ n₀ t₀ marks₀ out₀ n₀ t₀ 0 i
   scan-start few =
       record {
-        within = omega arith;
-        place = omega (arith, zero-mul d);
+        at = underway-start;
         marks-long = refl;
         out-long = refl;
         few = few;
@@ -171,36 +156,27 @@ module _ {act : Scanned → ℕ → ℕ → Scanned} {most d a i n : ℕ} {marks
         whole = steps-start d act _ a i n;
       }
 
-  module _ {marks out : List ℕ} {listed tests k j : ℕ} (l : Underway act most d a i n marks₀ out₀ n₀ t₀ marks out listed tests k j) where
-    -- Its tests and its index fit;
+  module _ {marks out : List ℕ} {listed tests k j : ℕ} (l : Scanning act most d a i n marks₀ out₀ n₀ t₀ marks out listed tests k j) where
+    -- Its tests fit,
     pub scan-tests : {all : ℕ} → t₀ + n * most ≤ all → tests ≤ all
-    scan-tests fits = omega (arith, l .bound, mul-le-mul-right {m = k} {n = n} most (l .within))
+    scan-tests fits = omega (arith, l .bound, mul-le-mul-right {m = k} {n = n} most (l .at .within))
 
-    pub scan-index : {all : ℕ} → i + n * d ≤ all → j ≤ all
-    scan-index fits = omega (arith, l .place, mul-le-mul-right {m = k} {n = n} d (l .within))
-
-    -- the tests of one more turn do,
+    -- and so do those of one more turn.
     pub scan-room : k < n → {all : ℕ} → t₀ + n * most ≤ all → tests + most ≤ all
-    scan-room h fits = omega (arith, below-last t₀ k n most (t₀ + k * most) h refl, l .bound)
-
-    -- and so does the index after it.
-    pub scan-place : k < n → {all : ℕ} → i + n * d ≤ all → j + d ≤ all
-    scan-place h fits = omega (arith, below-last i k n d j h (l .place))
+    scan-room h fits = omega (arith, stride-fits k n most h, l .bound)
 
     pub scan-on : {marks′ out′ : List ℕ} {listed′ tests′ : ℕ} → k < n → Made (act (progress marks out listed tests) (a + k) j) (tests + most) marks′ out′ listed′ tests′ → length marks′ ≡ length marks → length out′ ≡ length out
-        → Underway act most d a i n marks₀ out₀ n₀ t₀ marks′ out′ listed′ tests′ (k + 1) (j + d)
+        → Scanning act most d a i n marks₀ out₀ n₀ t₀ marks′ out′ listed′ tests′ (k + 1) (j + d)
     scan-on h made em eo =
         record {
-          within = omega arith;
-          place = next-at i k d j (l .place);
+          at = underway-on (l .at) h;
           marks-long = em ∙ l .marks-long;
           out-long = eo ∙ l .out-long;
           few = made .few;
-          bound = omega (arith, made .bound, l .bound, next-at t₀ k most (t₀ + k * most) refl);
+          bound = omega (arith, made .bound, l .bound, stride-more k most);
           whole = steps-on d act _ _ _ a j k n h (made .is) (l .whole);
         }
 
     pub scan-done : n ≤ k → Made (steps d act (progress marks₀ out₀ n₀ t₀) a i n) (t₀ + n * most) marks out listed tests
     scan-done h =
-        let e : k ≡ n = omega (arith, l .within) in
-        record { is = steps-done d act _ _ a j k n h (l .whole); few = l .few; bound = rw e at (l .bound) }
+        record { is = steps-done d act _ _ a j k n h (l .whole); few = l .few; bound = rw (underway-done (l .at) h) at (l .bound) }

@@ -1,9 +1,8 @@
 -- The scan of a face by indices makes the face's group: a slice is scanned as two loops, and each step keeps what ties the code's state to the rule's.
-use mathlib.Core.Bool.{Bool, true, false, not}
 use mathlib.Core.List.{List, [], _∷_, _++_, map, append-nil}
 use mathlib.Core.Path.{_≡_, refl, sym, _∙_, ap}
 use Prim.Native.Nat.{ℕ, zero, suc, _+_, _-_, _*_, _≤_, _<_}
-use native.Mathlib.Nat.{add-zero, zero-mul, suc-mul, mul-one}
+use native.Mathlib.Nat.{mul-one}
 use native.Mathlib.Omega.{arith}
 use lib.ListN.{length, drop}
 use Rattle.geometry.specs.declared.axis.Axis.{Axis}
@@ -13,11 +12,13 @@ use Rattle.geometry.specs.Point.{Point, at, along, put}
 use Rattle.geometry.specs.Axes.{positive, nAxis, uAxis, vAxis}
 use Rattle.geometry.proofs.Refusals.{split}
 use Rattle.voxels.specs.Shape.{size, index, stride, Field, field}
-use Rattle.voxels.specs.Extent.{Inside, every, upTo, scan}
+use Rattle.voxels.specs.Extent.{Inside, upTo, scan}
+use Rattle.voxels.specs.Loop.{looped, stepBy, every, Stand, stand, onBy, andNext, steps}
 use Rattle.voxels.specs.Visible.{visibilityOffset}
 use Rattle.voxels.specs.Inner.{Entered}
 use Rattle.voxels.proofs.Places.{index-at, index-below}
-use Rattle.voxels.proofs.Scan.{each-same, inside-at}
+use Rattle.voxels.proofs.Loops.{onward-by, onward-both, loops-agree, loops-same}
+use Rattle.voxels.proofs.Scan.{inside-at}
 use Rattle.voxels.proofs.Entered.{inner-in-shape}
 use Rattle.listing.specs.Pushed.{Output, pushed, pushedAll}
 use Rattle.listing.proofs.Pushed.{pushed-append}
@@ -28,7 +29,7 @@ use Rattle.rules.specs.Greedy.{greedyGroup}
 use Rattle.rules.specs.Choices.{groupFrom}
 use Rattle.rules.proofs.Spread.{spread, spread-index, spread-inside}
 use Rattle.greedy.specs.Greedy.{listed, quadNumbers, numbersOf}
-use Rattle.greedy.specs.Inner.{steps, quadAt, faster, slower, spot, spanOf, faceScan, Scanned, laidBy, laidAt, scannedAt, rowAlong, sliceAlong, slicesAlong}
+use Rattle.greedy.specs.Inner.{quadAt, faster, slower, spot, spanOf, faceScan, Scanned, laidBy, laidAt, scannedAt, rowAlong, sliceAlong, slicesAlong}
 use Rattle.greedy.proofs.Loops.{quad-wide, quad-high}
 use Rattle.greedy.proofs.Marks.{quad-length, quad-rest}
 use Rattle.greedy.proofs.Told.{Tells, tells-more, needs-same, quad-same}
@@ -39,15 +40,15 @@ use Rattle.greedy.specs.declared.face_scan.FaceScan.{FaceScan}
 
 -- A loop over one number.
 only : {A : Type 0} (g : ℕ → List A) (k : ℕ) → upTo k (k + 1) g ≡ g k
-unfolding every
+unfolding looped
 only g k = let one : k + 1 - k ≡ suc zero = omega arith in rw one (append-nil (g k))
 
 -- The points of a slice, row by row.
 pub slice-scan : (n : Axis) (e : Extent) (k : ℕ) → scan (sliceAt n e k)
     ≡ upTo (along (slower n) (e .minimum)) (along (slower n) (e .bound)) (λ (j : ℕ). upTo (along (faster n) (e .minimum)) (along (faster n) (e .bound)) (λ (i : ℕ). spot n k j i ∷ []))
 unfolding scan sliceAt put along spot
-slice-scan X e k = each-same _ _ _ _ (λ j. each-same _ _ _ _ (λ i. only (λ (x : ℕ). at x i j ∷ []) k))
-slice-scan Y e k = each-same _ _ _ _ (λ j. only (λ (y : ℕ). upTo (e .minimum .x) (e .bound .x) (λ (x : ℕ). at x y j ∷ [])) k)
+slice-scan X e k = loops-same _ _ _ _ _ _ _ _ _ (λ j _. loops-same _ _ _ _ _ _ _ _ _ (λ i _. only (λ (x : ℕ). at x _ _ ∷ []) k))
+slice-scan Y e k = loops-same _ _ _ _ _ _ _ _ _ (λ j _. only (λ (y : ℕ). upTo (e .minimum .x) (e .bound .x) (λ (x : ℕ). at x y _ ∷ [])) k)
 slice-scan Z e k = only (λ (z : ℕ). upTo (e .minimum .y) (e .bound .y) (λ (y : ℕ). upTo (e .minimum .x) (e .bound .x) (λ (x : ℕ). at x y z ∷ []))) k
 
 -- Where a point of it lies, by its steps from the minimum,
@@ -78,13 +79,12 @@ module _ (f : OrientedBlockFace) (v : Field) (e : Extent) (choice : Choice) wher
   steps-swept : {S : Type 0} (R : S → State → Type 0) (d : ℕ) (act : S → ℕ → ℕ → S) (g : ℕ → List Point) (n a i : ℕ) (s : S) (t : State)
       → ((k : ℕ) (s : S) (t : State) → k < n → R s t → R (act s (a + k) (i + k * d)) (swept f v e choice t (g (a + k))))
       → R s t → R (steps d act s a i n) (swept f v e choice t (every 1 a n g))
-  unfolding steps every swept
-  steps-swept R d act g zero a i s t keep r = r
-  steps-swept R d act g (suc n) a i s t keep r =
-      rw (swept-append t (g a) (every 1 (a + 1) n g))
-      (steps-swept R d act g n (a + 1) (i + d) (act s a i) (swept f v e choice t (g a))
-      (λ k s t h r. let x : a + suc k ≡ a + 1 + k = omega arith in let y : i + suc k * d ≡ i + d + k * d = omega (arith, suc-mul k d) in rw (x, y) at (keep (suc k) s t (omega arith) r))
-      (rw (zero-mul, add-zero, add-zero) at (keep 0 s t (omega arith) r)))
+  unfolding swept
+  steps-swept {S} R d act g n a i s t keep r =
+      loops-agree {join = andNext} (λ (step : S → S) (l : List Point). (s : S) (t : State) → R s t → R (step s) (swept f v e choice t l)) (λ s t r. r)
+      (λ step step′ l m first rest s t r. rw (swept-append t l m) (rest _ _ (first s t r)))
+      (onBy d) (λ (p : Stand) (s : S). act s (p .coordinate) (p .index)) (stepBy 1) g n (stand a i) a
+      (λ k h s t r. rw (onward-both d a i k, onward-by 1 a k, mul-one) (keep k s t h r)) s t r
 
 -- ---- the group
 

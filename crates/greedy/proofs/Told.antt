@@ -1,5 +1,5 @@
 -- What the bytes tell: the byte at a point's index is 0 exactly where no quad of the group contains the point. Laying a rectangle keeps it so, and then the walk by indices is the walk in coordinates.
-use mathlib.Core.Bool.{true, false, not, _&&_, _||_, or-true, or-false}
+use mathlib.Core.Bool.{true, false, not, _||_, or-true, or-false}
 use mathlib.Core.List.{List, [], _∷_, _++_}
 use mathlib.Core.Path.{_≡_, refl, sym, _∙_, ap}
 use Prim.Native.Nat.{ℕ, zero, suc, _+_, _-_, _*_, _≤_, _<_}
@@ -13,6 +13,7 @@ use Rattle.geometry.specs.Point.{Point, along, moved}
 use Rattle.geometry.specs.Axes.{positive, nAxis, uAxis, vAxis, bit}
 use Rattle.geometry.proofs.Frame.{frame, moved-on, moved-off}
 use Rattle.geometry.proofs.Refusals.{split}
+use Rattle.voxels.specs.Loop.{stepBy}
 use Rattle.voxels.specs.Shape.{size, index, stride, Field, field}
 use Rattle.voxels.specs.Extent.{Inside}
 use Rattle.voxels.specs.Visible.{visible, visibilityOffset}
@@ -25,7 +26,7 @@ use Rattle.rules.specs.Merger.{Walked, follows, rowWalk, rowsWalk, voxelMerger}
 use Rattle.rules.proofs.Spread.{spread, spread-index, spread-inside}
 use Rattle.rules.proofs.Contains.{contains-true, spread-contained, reached}
 use Rattle.rules.specs.Group.{visited}
-use Rattle.greedy.specs.Inner.{walked, walkedRows, stepBy, needsAt, joinsAt, rowAt, quadAt, markQuadAt}
+use Rattle.greedy.specs.Inner.{walked, walkedRows, needsAt, joinsAt, rowAt, quadAt, markQuadAt}
 use Rattle.greedy.proofs.Walks.{walk-passes, walk-fails, rows-whole, rows-broken, row-at-most}
 use Rattle.greedy.proofs.Marks.{quad-hits, quad-misses}
 use borrow.Author.Tests.{eqb-true, eqb-false}

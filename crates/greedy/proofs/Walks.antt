@@ -11,11 +11,11 @@ use borrow.Author.Tests.{eq-eqb, ne-eqb}
 use Rattle.geometry.proofs.Refusals.{split}
 use Rattle.voxels.specs.Voxel.{class, shows, uniform}
 use Rattle.voxels.specs.Visible.{offsetIndex}
+use Rattle.voxels.specs.Loop.{stepBy}
 use Rattle.voxels.specs.Inner.{mostVoxels}
-use Rattle.voxels.proofs.Asked.{more, done}
-use Rattle.voxels.proofs.Places.{below-last}
+use Rattle.voxels.proofs.Loops.{more, done, Underway}
 use Rattle.rules.specs.Merger.{Walked, walk, pick}
-use Rattle.greedy.specs.Inner.{walked, after, walkedRows, afterRows, stepBy, needsAt, joinsAt, rowAt, quadAt, RowReady, QuadReady}
+use Rattle.greedy.specs.Inner.{walked, after, walkedRows, afterRows, needsAt, joinsAt, rowAt, quadAt, RowReady, QuadReady}
 
 -- A walk's first step, from its test.
 module _ {A : Type 0} (ok : A → Bool) (next : A → A) (a : A) (n : ℕ) where
@@ -130,13 +130,14 @@ module _ (vn mn off i du wide dv high : ℕ) (ready : QuadReady vn mn off i du w
   first-step = omega (arith, ready .last, one-mul dv, mul-le-mul-right {m = 1} {n = high} dv (ready .high-some))
 
   -- and so is each after it, in part.
-  pub next-row : (w k j : ℕ) → w ≤ wide → k < high - 1 → j ≡ i + dv + k * dv → RowReady vn mn off j du w
-  next-row w k j le h e =
-      let at-j : i + (k + 1) * dv ≡ j = omega (arith, add-mul k 1 dv, one-mul dv) in
+  pub next-row : (w k j : ℕ) → w ≤ wide → k < high - 1 → Underway dv (i + dv) (high - 1) k j → RowReady vn mn off j du w
+  next-row w k j le h l =
+      let at-j : i + (k + 1) * dv ≡ j = omega (arith, l .place, add-mul k 1 dv, one-mul dv) in
       row-less w wide le (rw at-j at (ready .each (k + 1) (omega arith)))
 
-  pub rows-place : (k j : ℕ) → k < high - 1 → j ≡ i + dv + k * dv → j + dv ≤ 2 * mostVoxels
-  rows-place k j h e = omega (arith, ready .last, below-last (i + dv) k (high - 1) dv j h e, whole (high - 1) dv high (omega (arith, ready .high-some)))
+  -- The index at the end of the rows fits.
+  pub rows-last : i + dv + (high - 1) * dv ≤ 2 * mostVoxels
+  rows-last = omega (arith, ready .last, whole (high - 1) dv high (omega (arith, ready .high-some)))
     where
       whole : (m d n : ℕ) → n ≡ m + 1 → i + d + m * d ≡ i + n * d
       whole m d n e = omega (arith, add-mul m 1 d, one-mul d, ap (λ (k : ℕ). k * d) e)

@@ -1,6 +1,6 @@
 -- What private functions require and promise: the walk, the marks and the scan by indices, as the code makes them. No public contract uses these.
 use mathlib.Core.Bool.{Bool, true, false, _&&_}
-use mathlib.Core.List.{List, map}
+use mathlib.Core.List.{List}
 use mathlib.Core.Path.{_≡_}
 use Prim.Native.Nat.{ℕ, zero, suc, _+_, _-_, _*_, _≤_, _<_}
 use lib.Dec.{eqb}
@@ -14,6 +14,7 @@ use Rattle.voxels.specs.Voxel.{shows, uniform}
 use Rattle.voxels.specs.Shape.{size, stride}
 use Rattle.voxels.specs.Visible.{modulus, visibilityOffset, offsetIndex}
 use Rattle.voxels.specs.Inner.{mostVoxels, longest, Entered}
+use Rattle.voxels.specs.Loop.{stepBy, steps}
 use Rattle.listing.specs.Pushed.{Output, output, pushed, pushedAll, MadeGroups}
 use Rattle.rules.specs.Group.{Pick}
 use Rattle.rules.specs.Merger.{Walked}
@@ -49,10 +50,6 @@ afterRows k t w = record { got = k + w .got; tests = t + w .tests }
 -- A walk after so many that passed.
 abbrev pub after : ℕ → Walked → Walked
 after k w = record { got = k + w .got; tests = k + w .tests }
-
--- The index a stride on.
-abbrev pub stepBy : ℕ → ℕ → ℕ
-stepBy d i = i + d
 
 -- ---- tests by index
 
@@ -101,12 +98,7 @@ pub record QuadReady (voxels marks offset i du wide dv high : ℕ) : Type 0 wher
 
 -- ---- loops
 
--- `act` at a coordinate and an index, at the next coordinate and the index a stride on, .., so many times: what a loop that counts both does.
-unfoldable pub steps : {S : Type 0} → ℕ → (S → ℕ → ℕ → S) → S → ℕ → ℕ → ℕ → S
-steps d act s a i zero = s
-steps d act s a i (suc n) = steps d act (act s a i) (a + 1) (i + d) n
-
--- What such a loop asks for: something at each of its coordinates and indices, and that both fit.
+-- What a loop by a coordinate and an index asks for: something at each of them, and that both fit.
 pub record Stepping (P : ℕ → ℕ → Type 0) (d a i n : ℕ) : Type 0 where
   pub each : (k : ℕ) → k < n → P (a + k) (i + k * d)
   pub last : i + n * d ≤ 2 * mostVoxels

@@ -3,16 +3,18 @@
 use mathlib.Core.Bool.{Bool, true, false}
 use mathlib.Core.List.{List, [], _∷_, _++_}
 use mathlib.Core.Path.{_≡_, refl, sym, _∙_, ap, fun-ext}
-use Prim.Native.Nat.{ℕ, zero, suc, _+_, _-_, _*_}
-use native.Mathlib.Nat.{mul-one, suc-mul}
+use Prim.Native.Nat.{ℕ, _+_, _-_, _*_}
+use native.Mathlib.Nat.{mul-one}
 use native.Mathlib.Omega.{arith}
-use lib.ListN.{length, length-append}
+use lib.ListN.{length}
 use Rattle.geometry.specs.declared.axis.Axis.{Axis}
 use Rattle.geometry.specs.declared.axis.Axis.the-variants.{X, Y, Z}
 use Rattle.geometry.specs.Point.{Point, along}
 use Rattle.geometry.specs.Axes.{bit}
 use Rattle.voxels.specs.declared.extent.Extent.{Extent}
-use Rattle.voxels.specs.Extent.{Inside, every, scan, Each, inside, samePoint, times, howMany}
+use Rattle.voxels.specs.Extent.{Inside, scan, Each, inside, samePoint, times, howMany}
+use Rattle.voxels.specs.Loop.{stepBy, every}
+use Rattle.voxels.proofs.Loops.{loop-length, sum-constant}
 use Rattle.voxels.proofs.Scan.{each-up}
 use Rattle.voxels.proofs.Times.{inside-yes, same-true, same-itself, scan-once}
 use Rattle.rules.specs.Demand.{sumOf, points}
@@ -93,9 +95,7 @@ span e a = along a (e .bound) - along a (e .minimum)
 
 -- A loop whose lists are alike in length.
 pub every-length : {A : Type 0} (g : ℕ → List A) (m n a : ℕ) → ((k : ℕ) → length (g k) ≡ m) → length (every 1 a n g) ≡ n * m
-unfolding every
-every-length g m zero a e = omega arith
-every-length g m (suc n) a e = length-append (g a) (every 1 (a + 1) n g) ∙ omega (arith, e a, every-length g m n (a + 1) e, suc-mul n m)
+every-length g m n a e = loop-length (stepBy 1) g (stepBy 1) (λ (k : ℕ). m) n a a (λ k l. e _) ∙ sum-constant (stepBy 1) m n a
 
 -- An extent has as many points as its three lengths say.
 pub scan-length : (e : Extent) → points e ≡ span e X * (span e Y * span e Z)

@@ -8,7 +8,8 @@ use Rattle.geometry.specs.Point.{at, along, put, moved}
 use Rattle.geometry.specs.Axes.{nAxis}
 use Rattle.voxels.specs.Voxel.{class, mergeValue, shows, uniform}
 use Rattle.voxels.specs.Shape.{Field, size, index, field}
-use Rattle.voxels.specs.Extent.{every, scan, Each, howMany}
+use Rattle.voxels.specs.Extent.{scan, Each, howMany}
+use Rattle.voxels.specs.Loop.{looped}
 use Rattle.voxels.specs.Visible.{stepped, visible}
 use Rattle.rules.specs.Group.{sliceAt, sweep, among, contains, visited, passes, Choice, roomU, roomV, State, scanned, swept, fresh, group}
 use Rattle.rules.specs.Merger.{follows, rowWalk, rowsWalk, voxelMerger}
@@ -81,5 +82,5 @@ pub e2-meets-bound :
     let v : Field = field (at 4 4 3) (block (at 4 4 3) (placed 1 1 1 (O 7) ∷ [])) in
     let inner : Extent = wholeInterior (at 4 4 3) in
     (points inner ≡ 4) × (visiblePoints f v inner ≡ 1) × (greedyGroup inner v f .tests ≡ mostTests f v inner)
-unfolding greedyGroup group swept scanned passes visited contains among sweep sliceAt voxelMerger rowsWalk rowWalk follows visible stepped scan every howMany field index size block class mergeValue shows uniform along put moved
+unfolding greedyGroup group swept scanned passes visited contains among sweep sliceAt voxelMerger rowsWalk rowWalk follows visible stepped scan looped howMany field index size block class mergeValue shows uniform along put moved
 e2-meets-bound = (refl, refl, refl)

@@ -12,7 +12,7 @@ use Rattle.voxels.specs.Visible.{offsetIndex}
 use Rattle.voxels.specs.Inner.{mostVoxels, longest}
 use Rattle.simple.specs.Inner.{shownAt, rowShown, sliceShown, Sound, SliceSound, RowReady, SliceReady, Flat, Within, Counted}
 use Rattle.simple.proofs.Neighbours.{on-way}
-use Rattle.simple.proofs.Totals.{total-flat}
+use Rattle.simple.proofs.Totals.{flat-sum}
 use Rattle.simple.proofs.Sixes.{counted-zeros}
 
 -- ---- parts of a run
@@ -125,7 +125,7 @@ module _ {wide d high long : ℕ} (flat : Flat wide d high long) where
   unfolding rowShown sliceShown
   flat-shown vs o i =
       let all : rows + 1 ≡ high = omega (arith, flat .high-some) in
-      rw (flat .is) (rw all at (total-flat (shownAt vs o) wide 2 d (flat .apart) rows i))
+      rw (flat .is) (rw all at (flat-sum (shownAt vs o) wide 2 d (flat .apart) rows i))
 
   module _ (vs between : List ℕ) (i : ℕ) (offset : ℕ → ℕ) (counted : Counted (replicate 6 0) between (λ (f : ℕ). sliceShown vs (offset f) 2 d (high - 1) (i + wide))) where
     -- So what lies between the rows is no more than the run,

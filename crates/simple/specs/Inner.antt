@@ -9,13 +9,14 @@ use Rattle.geometry.specs.declared.axis.AxisPermutation.the-variants.{Xyz}
 use Rattle.geometry.specs.declared.face.OrientedBlockFace.{OrientedBlockFace}
 use Rattle.geometry.specs.Point.{Point, at}
 use Rattle.geometry.specs.Axes.{bit, positive, nAxis}
-use Rattle.voxels.specs.declared.index.Stride.{Stride}
 use Rattle.voxels.specs.Voxel.{class, shows}
 use Rattle.voxels.specs.Shape.{stride}
 use Rattle.voxels.specs.Visible.{modulus, visibilityOffset, offsetIndex}
-use Rattle.voxels.specs.Inner.{mostVoxels, longest, keptIf, inStep}
+use Rattle.voxels.specs.Inner.{mostVoxels, longest, keptIf}
+use Rattle.voxels.specs.Loop.{inStep, summed}
 use Rattle.listing.specs.Pushed.{output, pushedAll}
 use Rattle.simple.specs.Unit.{unitNumbers, numbersOf}
+use Rattle.voxels.specs.declared.index.Stride.{Stride}
 
 -- What stands past the end of a list of faces.
 abbrev pub noFace : OrientedBlockFace
@@ -53,26 +54,21 @@ slicesQuads voxels offset x wide y d high z e deep i = inStep e (sliceQuads voxe
 
 -- ---- what the loops count, by indices
 
--- What `g` gives at an index, at the index a stride on, .., so many of them, summed.
-unfoldable pub total : (ℕ → ℕ) → ℕ → ℕ → ℕ → ℕ
-total g d i zero = 0
-total g d i (suc n) = g i + total g d (i + d) n
-
 -- 1 where the voxel at an index shows its face to the one that an offset leads to, else 0.
 unfoldable pub shownAt : List ℕ → ℕ → ℕ → ℕ
 shownAt voxels offset i = bit (showsAt voxels offset i)
 
 -- How many voxels of a row do, from its length and its first index.
 unfoldable pub rowShown : List ℕ → ℕ → ℕ → ℕ → ℕ
-rowShown voxels offset wide i = total (shownAt voxels offset) 1 i wide
+rowShown voxels offset wide i = summed (shownAt voxels offset) 1 i wide
 
 -- How many of so many rows, a stride apart.
 unfoldable pub sliceShown : List ℕ → ℕ → ℕ → ℕ → ℕ → ℕ → ℕ
-sliceShown voxels offset wide d high i = total (rowShown voxels offset wide) d i high
+sliceShown voxels offset wide d high i = summed (rowShown voxels offset wide) d i high
 
 -- How many of so many slices, a stride apart.
 unfoldable pub slicesShown : List ℕ → ℕ → ℕ → ℕ → ℕ → ℕ → ℕ → ℕ → ℕ
-slicesShown voxels offset wide d high e deep i = total (sliceShown voxels offset wide d high) e i deep
+slicesShown voxels offset wide d high e deep i = summed (sliceShown voxels offset wide d high) e i deep
 
 -- ---- where the loops list: a run of quads for each face, the runs apart from each other
 

@@ -1,8 +1,8 @@
 -- Checks asked one after another: what a loop over them has to show, in the form of its invariant. "What is left to ask decides as the whole does."
-use mathlib.Core.List.{List, [], _∷_}
-use mathlib.Core.Path.{_≡_, refl, sym, _∙_}
+use mathlib.Core.List.{List, [], _∷_, _++_}
+use mathlib.Core.Path.{_≡_, refl, sym, _∙_, ap}
 use Prim.Native.Nat.{ℕ, zero, suc, _+_, _-_, _≤_, _<_}
-use native.Mathlib.Nat.{sub-zero, suc-add, not-suc-le-zero}
+use native.Mathlib.Nat.{suc-add, not-suc-le-zero}
 use native.Mathlib.Omega.{arith}
 use lib.ListN.{length, getD, drop, drop-of-length-le}
 use borrow.Author.Tests.{eq-eqb, ne-eqb}
@@ -11,24 +11,16 @@ use Rattle.geometry.specs.Refusal.{Answer, accepted, refused, Check, atPlace, a
 use Rattle.geometry.specs.Checks.{badSign}
 use Rattle.geometry.proofs.Refusals.{in-turn, place-passes, place-refuses}
 use Rattle.voxels.specs.Voxel.{class}
-use Rattle.voxels.specs.Extent.{every}
+use Rattle.voxels.specs.Loop.{every, stepBy}
 use Rattle.voxels.specs.Checks.{badFacesFrom}
 use Rattle.voxels.specs.Inner.{badAt}
-
--- With k of n done, one more is due,
-pub more : (k n : ℕ) → k < n → n - k ≡ suc (n - (k + 1))
-more k n h = omega arith
-
--- or none.
-pub done : (k n : ℕ) → n ≤ k → n - k ≡ zero
-done k n h = omega arith
+use Rattle.voxels.proofs.Loops.{loop-start, loop-next, loop-none}
 
 -- A loop over checks that lie a stride apart.
 module _ (d : ℕ) (g : ℕ → List Check) (i k n : ℕ) {t : Answer (Unit {0})} (left : checked (every d i (n - k) g) ≡ t) where
   -- Those at hand decide, or the rest does.
   pub ask-next : k < n → follow (checked (g i)) (checked (every d (i + d) (n - (k + 1)) g)) ≡ t
-  unfolding every
-  ask-next h = sym (in-turn (g i) (every d (i + d) (n - (k + 1)) g) tt) ∙ rw (more k n h) at left
+  ask-next h = sym (in-turn (g i) (every d (i + d) (n - (k + 1)) g) tt) ∙ sym (ap checked (loop-next [] _++_ (stepBy d) g i k n h)) ∙ left
 
   -- Where they pass the loop goes on,
   pub ask-on : k < n → checked (g i) ≡ accepted tt → checked (every d (i + d) (n - (k + 1)) g) ≡ t
@@ -40,12 +32,12 @@ module _ (d : ℕ) (g : ℕ → List Check) (i k n : ℕ) {t : Answer (Unit {0})
 
   -- and at its end nothing is refused.
   pub ask-done : n ≤ k → accepted tt ≡ t
-  unfolding every answer
-  ask-done h = rw (done k n h) at left
+  unfolding answer
+  ask-done h = sym (ap checked (loop-none [] _++_ (stepBy d) g i k n h)) ∙ left
 
 -- The loop's start.
 pub ask-start : (d : ℕ) (g : ℕ → List Check) (i n : ℕ) → checked (every d i (n - 0) g) ≡ checked (every d i n g)
-ask-start d g i n = rw sub-zero
+ask-start d g i n = ap checked (loop-start [] _++_ (stepBy d) g i n)
 
 -- One voxel: it is bad,
 pub bad-here : (vs : List ℕ) (i : ℕ) {k : ℕ} → k ≡ class (getD vs i 0) → k ≡ 3 → checked (badAt vs i) ≡ refused 8 i

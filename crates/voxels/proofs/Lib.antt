@@ -3,6 +3,8 @@
 pub mod Numbers
 -- Of voxels that show their faces.
 pub mod Voxels
+-- Of loops.
+pub mod Loops
 -- Of places in a shape: index and stride.
 pub mod Places
 -- Of checks asked by a loop.

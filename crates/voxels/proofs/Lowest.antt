@@ -13,7 +13,8 @@ use Rattle.geometry.specs.Refusal.{accepted, refused, Check, answer, checked}
 use Rattle.geometry.proofs.Refusals.{split, refused-number, refused-place, not-both, applies, passes, first-passes, rest-accepts}
 use Rattle.voxels.specs.Voxel.{class}
 use Rattle.voxels.specs.Shape.{index, stride, field}
-use Rattle.voxels.specs.Extent.{box, interior, scan, every, Inside, Each}
+use Rattle.voxels.specs.Extent.{box, interior, scan, Inside, Each}
+use Rattle.voxels.specs.Loop.{looped, every}
 use Rattle.voxels.specs.Checks.{badVoxelAt, badVoxels}
 use Rattle.voxels.specs.Statements.{LowestBad, NoneBad}
 use Rattle.voxels.specs.Inner.{Held, SoundAround, row, rows, slices}
@@ -40,7 +41,7 @@ ascend-wider lo hi hi′ (c ∷ cs) l h = (h .0, ascend-wider (c .place + 1) hi 
 
 -- A loop whose every list ascends within its stride ascends.
 ascend-every : (d : ℕ) (g : ℕ → List Check) → ((i : ℕ) → Ascend i (i + d) (g i)) → (n a : ℕ) → Ascend a (a + n * d) (every d a n g)
-unfolding every
+unfolding looped
 ascend-every d g h zero a = omega arith
 ascend-every d g h (suc n) a =
     let e : a + d + n * d ≡ a + suc n * d = omega (arith, suc-mul n d) in

@@ -7,6 +7,7 @@ use lib.Dec.{eqb, leb, ltb}
 use Rattle.geometry.specs.declared.axis.Axis.{Axis}
 use Rattle.geometry.specs.Point.{Point, at, along}
 use Rattle.geometry.specs.Axes.{bit}
+use Rattle.voxels.specs.Loop.{every}
 use Rattle.voxels.specs.declared.extent.Extent.{Extent}
 
 -- "The box is min to max, max included": its bound is one past max on each axis.
@@ -20,11 +21,6 @@ interior min max = record { minimum = at (min .x + 1) (min .y + 1) (min .z + 1);
 -- A point lies in an extent.
 abbrev pub Inside : Extent → Point → Type 0
 Inside e p = (a : Axis) → (along a (e .minimum) ≤ along a p) × (along a p < along a (e .bound))
-
--- The lists that `g` gives at a, a + d, a + 2·d, .., n of them, end to end.
-unfoldable pub every : {A : Type 0} → ℕ → ℕ → ℕ → (ℕ → List A) → List A
-every d a zero g = []
-every d a (suc n) g = g a ++ every d (a + d) n g
 
 -- The same at a, a + 1, .., up to but not with b.
 abbrev pub upTo : {A : Type 0} → ℕ → ℕ → (ℕ → List A) → List A

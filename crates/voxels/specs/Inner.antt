@@ -11,7 +11,8 @@ use Rattle.geometry.specs.Refusal.{Check}
 use Rattle.voxels.specs.declared.extent.Extent.{Extent}
 use Rattle.voxels.specs.Voxel.{class}
 use Rattle.voxels.specs.Shape.{size, index}
-use Rattle.voxels.specs.Extent.{interior, every}
+use Rattle.voxels.specs.Extent.{interior}
+use Rattle.voxels.specs.Loop.{every}
 use Rattle.voxels.specs.Checks.{badVoxelAt}
 
 -- The most voxels that a shape has.
@@ -93,7 +94,3 @@ pub record SlicesLent (lent i wide d high e deep : ℕ) : Type 0 where
   pub each : (k : ℕ) → k < deep → RowsLent lent (i + k * e) wide d high
   pub last : i + deep * e ≤ 2 * mostVoxels
 
--- What `g` gives at a coordinate and an index, at the next coordinate and the index a stride on, .., so many of them, end to end: what a loop that counts both gathers.
-unfoldable pub inStep : {A : Type 0} → ℕ → (ℕ → ℕ → List A) → ℕ → ℕ → ℕ → List A
-inStep d g a i zero = []
-inStep d g a i (suc n) = g a i ++ inStep d g (a + 1) (i + d) n

@@ -1,6 +1,7 @@
 -- To be read in this order.
 pub mod Voxel
 pub mod Shape
+pub mod Loop
 pub mod Extent
 pub mod Visible
 pub mod Checks

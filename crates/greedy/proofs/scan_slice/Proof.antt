@@ -2,13 +2,14 @@
 use borrow.Author.Needs.{needs}
 use Prim.Native.Nat.{_-_, _*_}
 use native.Mathlib.Omega.{arith}
+use Rattle.voxels.proofs.Loops.{next-fits}
 use Rattle.greedy.specs.Inner.{rowAlong, sliceAlong, voxelTests}
-use Rattle.greedy.proofs.Loops.{Underway, scan-start, scan-room, scan-place, scan-on, scan-done}
+use Rattle.greedy.proofs.Loops.{Scanning, scan-start, scan-room, scan-on, scan-done}
 use Rattle.greedy.proofs.scan_slice.Statement.{statement}
 use Rattle.greedy.proofs.scan_slice.Tie as tie
 
 abbrev Inv-loop : tie.InvT-loop
-Inv-loop voxels visited₀ out₀ capacity scan slice step count from listed₀ tests₀ k₀ i₀ visited out listed tests k i = Underway (rowAlong voxels scan slice) (scan .row .count * voxelTests) step from i₀ count visited₀ out₀ listed₀ tests₀ visited out listed tests k i
+Inv-loop voxels visited₀ out₀ capacity scan slice step count from listed₀ tests₀ k₀ i₀ visited out listed tests k i = Scanning (rowAlong voxels scan slice) (scan .row .count * voxelTests) step from i₀ count visited₀ out₀ listed₀ tests₀ visited out listed tests k i
 
 abbrev μ-loop : tie.MeasureT-loop
 μ-loop voxels visited₀ out₀ capacity scan slice step count from listed₀ tests₀ k₀ i₀ visited out listed tests k i = count - k
@@ -24,13 +25,13 @@ scan-row-requires c κs =
     let h = c .before .before .before .before .before .before .before .before .pre in
     let l = c .before .before .before .loop in
     let taken = c .before .before .loop-test .taken in
-    ((rw (l .inv .out-long) (h .0 .0), l .inv .few, scan-room (l .inv) taken (h .0 .2)), rw (l .inv .place, l .inv .marks-long) (h .1 .each (l .k) taken))
+    ((rw (l .inv .out-long) (h .0 .0), l .inv .few, scan-room (l .inv) taken (h .0 .2)), rw (l .inv .at .place, l .inv .marks-long) (h .1 .each (l .k) taken))
 
 add-k : tie.Need-add-k Inv-loop μ-loop
 add-k c = search needs
 
 add-i : tie.Need-add-i Inv-loop μ-loop
-add-i c = record { fits = omega (arith, scan-place (c .before .before .before .before .before .before .before .before .loop .inv) (c .before .before .before .before .before .before .before .loop-test .taken) (c .before .before .before .before .before .before .before .before .before .before .before .before .before .pre .1 .last)) }
+add-i c = record { fits = omega (arith, next-fits (c .before .before .before .before .before .before .before .before .loop .inv .at) (c .before .before .before .before .before .before .before .loop-test .taken) (c .before .before .before .before .before .before .before .before .before .before .before .before .before .pre .1 .last)) }
 
 loop-less : tie.Need-loop-less Inv-loop μ-loop
 loop-less c = omega arith

@@ -2,20 +2,21 @@
 use borrow.Author.Needs.{needs}
 use mathlib.Core.Path.{_≡_}
 use Prim.Native.Nat.{_+_, _-_, _*_, _≤_, _<_}
-use native.Mathlib.Nat.{zero-mul, sub-zero}
+use native.Mathlib.Nat.{sub-zero}
 use native.Mathlib.Omega.{arith}
 use lib.ListN.{getD}
 use Rattle.voxels.specs.Visible.{modulus}
-use Rattle.voxels.proofs.Places.{next-at}
+use Rattle.voxels.specs.Loop.{stepBy}
+use Rattle.voxels.proofs.Loops.{Underway, underway-start, underway-on, next-fits}
 use Rattle.rules.specs.Merger.{walk}
-use Rattle.greedy.specs.Inner.{walkedRows, afterRows, stepBy, rowAt}
-use Rattle.greedy.proofs.Walks.{first-row, first-voxel, first-step, next-row, rows-place, row-at-most, rows-on, rows-stop, rows-done, quad-from}
+use Rattle.greedy.specs.Inner.{walkedRows, afterRows, rowAt}
+use Rattle.greedy.proofs.Walks.{first-row, first-voxel, first-step, next-row, rows-last, row-at-most, rows-on, rows-stop, rows-done, quad-from}
 use Rattle.greedy.proofs.merge_strategy.find_quad.Statement.{statement}
 use Rattle.greedy.proofs.merge_strategy.find_quad.Tie as tie
 
 abbrev Inv-loop : tie.InvT-loop
 Inv-loop voxels visited max-width max-height u-stride visibility-offset first quad-voxel width step most tests₀ rows₀ i₀ tests rows i =
-    (rows ≤ most) × (i ≡ i₀ + rows * step) × (tests ≤ tests₀ + rows * 4294967296)
+    Underway step i₀ most rows i × (tests ≤ tests₀ + rows * 4294967296)
     × (afterRows rows tests (walkedRows (rowAt voxels visited (visibility-offset .0) quad-voxel (u-stride .0) width) width (stepBy step) i (most - rows)) ≡ afterRows 0 tests₀ (walkedRows (rowAt voxels visited (visibility-offset .0) quad-voxel (u-stride .0) width) width (stepBy step) i₀ most))
 
 abbrev μ-loop : tie.MeasureT-loop
@@ -43,7 +44,7 @@ add-i : tie.Need-add-i Inv-loop μ-loop
 add-i c = let a = c .before .before .before .before .before .before .before .args in let h = c .before .before .before .before .before .before .before .pre in record { fits = omega (arith, first-step _ _ _ _ _ _ _ _ h) }
 
 loop-holds : tie.Need-loop-holds Inv-loop μ-loop
-loop-holds c = let a = c .before .before .before .before .before .before .before .args in (search needs, omega (arith, zero-mul (a .v-stride .0)), omega arith, rw sub-zero)
+loop-holds c = (underway-start, omega arith, rw sub-zero)
 
 get-row-width-requires-2 : tie.Need-get-row-width-requires-2 Inv-loop μ-loop
 get-row-width-requires-2 c κs =
@@ -53,7 +54,7 @@ get-row-width-requires-2 c κs =
     let taken = c .loop-test .taken in
     let row = c .before .before .before .before .get-row-width .ensures in
     let wide = row-at-most _ _ _ _ _ _ _ row in
-    next-row _ _ _ _ _ _ _ _ h _ (l .rows) _ wide taken (l .inv .1)
+    next-row _ _ _ _ _ _ _ _ h _ (l .rows) _ wide taken (l .inv .0)
 
 cast-tests-2 : tie.Need-cast-tests-2 Inv-loop μ-loop
 cast-tests-2 c = search needs
@@ -64,7 +65,7 @@ add-tests c =
     let first : c .before .before .before .before .before .before .get-row-width .result .tests < modulus = search needs in
     let more : c .before .get-row-width2 .result .tests < modulus = search needs in
     let most : c .before .before .before .before .before .before .before .before .before .before .before .args .max-height < modulus = search needs in
-    record { fits = omega (arith, l .inv .2, c .before .before .loop-test .taken) }
+    record { fits = omega (arith, l .inv .1, c .before .before .loop-test .taken) }
 
 add-height : tie.Need-add-height Inv-loop μ-loop
 add-height c = search needs
@@ -78,7 +79,7 @@ returns c =
     let row = c .before .before .before .before .before .before .before .before .get-row-width .ensures in
     let wide = row-at-most _ _ _ _ _ _ _ row in
     quad-from (a .voxels .now) (a .visited .now) (a .visibility-offset .0) (a .u-stride .0) (a .v-stride .0) (a .max-width) (a .max-height) (a .min-index .0) (walk (c .before .before .before .before .before .before .before .before .get-row-width .result .width) (c .before .before .before .before .before .before .before .before .get-row-width .result .tests)) _ _ row
-    (rows-stop (rowAt (a .voxels .now) (a .visited .now) (a .visibility-offset .0) (getD (a .voxels .now) (a .min-index .0) 0) (a .u-stride .0) (c .before .before .before .before .before .before .before .before .get-row-width .result .width)) (c .before .before .before .before .before .before .before .before .get-row-width .result .width) (stepBy (a .v-stride .0)) (l .i) (l .rows) (a .max-height - 1) (l .tests) _ (walk (c .before .before .before .get-row-width2 .result .width) (c .before .before .before .get-row-width2 .result .tests)) taken (c .before .before .before .get-row-width2 .ensures) (λ e. omega (arith, c .if1 .taken)) (l .inv .3))
+    (rows-stop (rowAt (a .voxels .now) (a .visited .now) (a .visibility-offset .0) (getD (a .voxels .now) (a .min-index .0) 0) (a .u-stride .0) (c .before .before .before .before .before .before .before .before .get-row-width .result .width)) (c .before .before .before .before .before .before .before .before .get-row-width .result .width) (stepBy (a .v-stride .0)) (l .i) (l .rows) (a .max-height - 1) (l .tests) _ (walk (c .before .before .before .get-row-width2 .result .width) (c .before .before .before .get-row-width2 .result .tests)) taken (c .before .before .before .get-row-width2 .ensures) (λ e. omega (arith, c .if1 .taken)) (l .inv .2))
 
 add-rows : tie.Need-add-rows Inv-loop μ-loop
 add-rows c = search needs
@@ -91,7 +92,7 @@ add-i-2 c =
     let taken = c .before .before .before .before .loop-test .taken in
     let row = c .before .before .before .before .before .before .before .before .get-row-width .ensures in
     let wide = row-at-most _ _ _ _ _ _ _ row in
-    record { fits = omega (arith, rows-place _ _ _ _ _ _ _ _ h (l .rows) (l .i) taken (l .inv .1)) }
+    record { fits = omega (arith, next-fits (l .inv .0) taken (rows-last _ _ _ _ _ _ _ _ h)) }
 
 loop-less : tie.Need-loop-less Inv-loop μ-loop
 loop-less c = omega arith
@@ -107,10 +108,9 @@ loop-again c =
     let next = c .before .before .before .get-row-width2 .ensures in
     let most = row-at-most _ _ _ _ _ _ _ next in
     let tested : c .before .before .before .get-row-width2 .result .tests < modulus = search needs in (
-      omega arith,
-      next-at _ _ _ _ (l .inv .1),
-      omega (arith, l .inv .2),
-      rows-on (rowAt (a .voxels .now) (a .visited .now) (a .visibility-offset .0) (getD (a .voxels .now) (a .min-index .0) 0) (a .u-stride .0) (c .before .before .before .before .before .before .before .before .get-row-width .result .width)) (c .before .before .before .before .before .before .before .before .get-row-width .result .width) (stepBy (a .v-stride .0)) (l .i) (l .rows) (a .max-height - 1) (l .tests) _ (walk (c .before .before .before .get-row-width2 .result .width) (c .before .before .before .get-row-width2 .result .tests)) taken next (omega (arith, c .if1 .left, most)) (l .inv .3),
+      underway-on (l .inv .0) taken,
+      omega (arith, l .inv .1),
+      rows-on (rowAt (a .voxels .now) (a .visited .now) (a .visibility-offset .0) (getD (a .voxels .now) (a .min-index .0) 0) (a .u-stride .0) (c .before .before .before .before .before .before .before .before .get-row-width .result .width)) (c .before .before .before .before .before .before .before .before .get-row-width .result .width) (stepBy (a .v-stride .0)) (l .i) (l .rows) (a .max-height - 1) (l .tests) _ (walk (c .before .before .before .get-row-width2 .result .width) (c .before .before .before .get-row-width2 .result .tests)) taken next (omega (arith, c .if1 .left, most)) (l .inv .2),
     )
 
 add-height-2 : tie.Need-add-height-2 Inv-loop μ-loop
@@ -122,7 +122,7 @@ returns-2 c =
     let l = c .before .loop in
     let row = c .before .before .before .before .get-row-width .ensures in
     quad-from (a .voxels .now) (a .visited .now) (a .visibility-offset .0) (a .u-stride .0) (a .v-stride .0) (a .max-width) (a .max-height) (a .min-index .0) (walk (c .before .before .before .before .get-row-width .result .width) (c .before .before .before .before .get-row-width .result .tests)) _ _ row
-    (rows-done (rowAt (a .voxels .now) (a .visited .now) (a .visibility-offset .0) (getD (a .voxels .now) (a .min-index .0) 0) (a .u-stride .0) (c .before .before .before .before .get-row-width .result .width)) (c .before .before .before .before .get-row-width .result .width) (stepBy (a .v-stride .0)) (l .i) (l .rows) (a .max-height - 1) (l .tests) _ (c .loop-test .left) (l .inv .3))
+    (rows-done (rowAt (a .voxels .now) (a .visited .now) (a .visibility-offset .0) (getD (a .voxels .now) (a .min-index .0) 0) (a .u-stride .0) (c .before .before .before .before .get-row-width .result .width)) (c .before .before .before .before .get-row-width .result .width) (stepBy (a .v-stride .0)) (l .i) (l .rows) (a .max-height - 1) (l .tests) _ (c .loop-test .left) (l .inv .2))
 
 pub find-quad-spec : {M : Type 1} → statement M
 find-quad-spec =

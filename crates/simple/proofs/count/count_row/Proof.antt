@@ -25,7 +25,7 @@ count-voxel-requires c κs =
     let l = c .before .before .loop in
     let pre = c .before .before .before .before .before .pre in
     let taken = c .before .loop-test .taken in
-    let here : l .i ≡ a .start .0 + l .k = l .inv .place ∙ rw mul-one in (
+    let here : l .i ≡ a .start .0 + l .k = l .inv .at .place ∙ rw mul-one in (
       (rw here (pre .0 0 (omega arith) .here (l .k) taken), rw here (pre .1 .0 (l .k) taken)),
       (
         λ f b. rw here (pre .0 f b .beyond (l .k) taken),
@@ -37,7 +37,7 @@ add-k : tie.Need-add-k Inv-loop μ-loop
 add-k c = search needs
 
 add-i : tie.Need-add-i Inv-loop μ-loop
-add-i c = record { fits = omega (arith, c .before .before .before .before .before .loop .inv .place, c .before .before .before .before .loop-test .taken, c .before .before .before .before .before .before .before .before .pre .1 .1 .1) }
+add-i c = record { fits = omega (arith, c .before .before .before .before .before .loop .inv .at .place, c .before .before .before .before .loop-test .taken, c .before .before .before .before .before .before .before .before .pre .1 .1 .1) }
 
 loop-less : tie.Need-loop-less Inv-loop μ-loop
 loop-less c = omega arith

@@ -4,9 +4,10 @@ use mathlib.Core.Path.{sym, _∙_}
 use Prim.Native.Nat.{ℕ, _-_}
 use native.Mathlib.Omega.{arith}
 use Rattle.simple.specs.Inner.{offsetOf, rowShown, sliceShown}
+use Rattle.voxels.proofs.Loops.{next-fits}
 use Rattle.simple.proofs.Totals.{row-at-most}
 use Rattle.simple.proofs.Sixes.{room-less}
-use Rattle.simple.proofs.Counting.{Counting, counting-start, counting-room, counting-place, counting-on, counting-done}
+use Rattle.simple.proofs.Counting.{Counting, counting-start, counting-room, counting-on, counting-done}
 use Rattle.simple.proofs.count.count_rows.Statement.{statement}
 use Rattle.simple.proofs.count.count_rows.Tie as tie
 
@@ -25,7 +26,7 @@ count-row-requires c κs =
     let l = c .before .before .loop in
     let pre = c .before .before .before .before .before .pre in
     let taken = c .before .loop-test .taken in
-    let here = l .inv .place in
+    let here = l .inv .at .place in
     let slice = pre .0 0 (omega arith) in
     let apart = slice .apart in (
       λ f b. rw here (pre .0 f b .each (l .k) taken),
@@ -33,7 +34,7 @@ count-row-requires c κs =
         rw here (pre .1 .0 .each (l .k) taken),
         (
           room-less (counting-room (l .inv) (a .y-stride .0) (λ f j. omega (arith, row-at-most (a .voxels .now) (offsetOf (a .kernel-strides) f) (a .wide) j)) (pre .1 .1) taken) apart,
-          omega (arith, counting-place (l .inv) taken (slice .last)),
+          omega (arith, next-fits (l .inv .at) taken (slice .last)),
         ),
       ),
     )
@@ -42,7 +43,7 @@ add-k : tie.Need-add-k Inv-loop μ-loop
 add-k c = search needs
 
 add-i : tie.Need-add-i Inv-loop μ-loop
-add-i c = record { fits = omega (arith, counting-place (c .before .before .before .before .before .loop .inv) (c .before .before .before .before .loop-test .taken) (c .before .before .before .before .before .before .before .before .pre .0 0 (omega arith) .last)) }
+add-i c = record { fits = omega (arith, next-fits (c .before .before .before .before .before .loop .inv .at) (c .before .before .before .before .loop-test .taken) (c .before .before .before .before .before .before .before .before .pre .0 0 (omega arith) .last)) }
 
 loop-less : tie.Need-loop-less Inv-loop μ-loop
 loop-less c = omega arith

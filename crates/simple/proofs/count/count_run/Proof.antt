@@ -5,7 +5,8 @@ use Prim.Native.Nat.{ℕ, _+_, _-_, _≤_}
 use native.Mathlib.Omega.{arith}
 use lib.ListN.{length}
 use Rattle.voxels.specs.Visible.{offsetIndex}
-use Rattle.simple.specs.Inner.{total, rowShown, RowReady}
+use Rattle.voxels.specs.Loop.{looped}
+use Rattle.simple.specs.Inner.{rowShown, RowReady}
 use Rattle.simple.proofs.Neighbours.{beyond-at}
 use Rattle.simple.proofs.Totals.{row-at-most, row-next}
 use Rattle.simple.proofs.count.count_run.Statement.{statement}
@@ -27,7 +28,7 @@ cast-j : tie.Need-cast-j Inv-loop μ-loop
 cast-j c = search needs
 
 loop-holds : tie.Need-loop-holds Inv-loop μ-loop
-unfolding rowShown total
+unfolding rowShown looped
 loop-holds c = (search needs, λ o ready at-j. refl)
 
 add-shown : tie.Need-add-shown Inv-loop μ-loop

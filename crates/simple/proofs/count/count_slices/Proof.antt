@@ -5,9 +5,10 @@ use Prim.Native.Nat.{ℕ, _-_}
 use native.Mathlib.Nat.{mul-le-mul-left}
 use native.Mathlib.Omega.{arith}
 use Rattle.simple.specs.Inner.{offsetOf, sliceShown, slicesShown}
+use Rattle.voxels.proofs.Loops.{next-fits}
 use Rattle.simple.proofs.Totals.{slice-at-most}
 use Rattle.simple.proofs.Sixes.{room-less}
-use Rattle.simple.proofs.Counting.{Counting, counting-start, counting-room, counting-place, counting-on, counting-done}
+use Rattle.simple.proofs.Counting.{Counting, counting-start, counting-room, counting-on, counting-done}
 use Rattle.simple.proofs.count.count_slices.Statement.{statement}
 use Rattle.simple.proofs.count.count_slices.Tie as tie
 
@@ -26,7 +27,7 @@ count-slice-requires c κs =
     let l = c .before .before .loop in
     let pre = c .before .before .before .before .before .pre in
     let taken = c .before .loop-test .taken in
-    let here = l .inv .place in
+    let here = l .inv .at .place in
     let slices = pre .0 0 (omega arith) in
     let apart = slices .apart in
     let shorter = mul-le-mul-left {m = a .wide} {n = a .y-stride .0} (a .high) (slices .each (l .k) taken .apart) in (
@@ -41,7 +42,7 @@ add-k : tie.Need-add-k Inv-loop μ-loop
 add-k c = search needs
 
 add-i : tie.Need-add-i Inv-loop μ-loop
-add-i c = record { fits = omega (arith, counting-place (c .before .before .before .before .before .loop .inv) (c .before .before .before .before .loop-test .taken) (c .before .before .before .before .before .before .before .before .pre .0 0 (omega arith) .last)) }
+add-i c = record { fits = omega (arith, next-fits (c .before .before .before .before .before .loop .inv .at) (c .before .before .before .before .loop-test .taken) (c .before .before .before .before .before .before .before .before .pre .0 0 (omega arith) .last)) }
 
 loop-less : tie.Need-loop-less Inv-loop μ-loop
 loop-less c = omega arith

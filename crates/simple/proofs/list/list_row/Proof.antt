@@ -7,12 +7,12 @@ use native.Mathlib.Omega.{arith}
 use Rattle.simple.specs.Inner.{offsetOf, shownAt, voxelQuad, rowQuads}
 use Rattle.simple.proofs.Totals.{voxel-at-most, voxel-length}
 use Rattle.simple.proofs.Counting.{counting-room}
-use Rattle.simple.proofs.Cursors.{Underway, runs-start, runs-on, runs-done}
+use Rattle.simple.proofs.Cursors.{Listing, runs-start, runs-on, runs-done}
 use Rattle.simple.proofs.list.list_row.Statement.{statement}
 use Rattle.simple.proofs.list.list_row.Tie as tie
 
 abbrev Inv-loop : tie.InvT-loop
-Inv-loop voxels out₀ capacity kernel-strides cursors₀ x y z wide k₀ i₀ out cursors k i = Underway 1 (λ (f : ℕ). voxelQuad voxels (offsetOf kernel-strides f) y z) (λ (f : ℕ). shownAt voxels (offsetOf kernel-strides f)) x i₀ wide out₀ cursors₀ out cursors k i
+Inv-loop voxels out₀ capacity kernel-strides cursors₀ x y z wide k₀ i₀ out cursors k i = Listing 1 (λ (f : ℕ). voxelQuad voxels (offsetOf kernel-strides f) y z) (λ (f : ℕ). shownAt voxels (offsetOf kernel-strides f)) x i₀ wide out₀ cursors₀ out cursors k i
 
 abbrev μ-loop : tie.MeasureT-loop
 μ-loop voxels out₀ capacity kernel-strides cursors₀ x y z wide k₀ i₀ out cursors k i = wide - k
@@ -29,14 +29,14 @@ list-voxel-requires c κs =
     let h = c .before .before .before .before .before .before .before .pre in
     let l = c .before .before .before .loop in
     let taken = c .before .before .loop-test .taken in
-    let place : l .i ≡ a .start .0 + l .k = omega (arith, l .inv .moved .place) in
+    let place : l .i ≡ a .start .0 + l .k = omega (arith, l .inv .moved .at .place) in
     (rw (l .inv .long) (h .0), ((rw place (h .1 .0 0 (omega arith) .here (l .k) taken), rw place (h .1 .1 .0 (l .k) taken)), (λ f b. rw place (h .1 .0 f b .beyond (l .k) taken), counting-room (l .inv .moved) 1 (λ f. voxel-at-most (a .voxels .now) _) (rw mul-one (h .1 .1 .1 .0 .0)) taken)))
 
 add-k : tie.Need-add-k Inv-loop μ-loop
 add-k c = search needs
 
 add-i : tie.Need-add-i Inv-loop μ-loop
-add-i c = record { fits = omega (arith, c .before .before .before .before .before .before .before .before .loop .inv .moved .place, c .before .before .before .before .before .before .before .loop-test .taken, c .before .before .before .before .before .before .before .before .before .before .before .before .pre .1 .1 .1 .0 .2) }
+add-i c = record { fits = omega (arith, c .before .before .before .before .before .before .before .before .loop .inv .moved .at .place, c .before .before .before .before .before .before .before .loop-test .taken, c .before .before .before .before .before .before .before .before .before .before .before .before .pre .1 .1 .1 .0 .2) }
 
 loop-less : tie.Need-loop-less Inv-loop μ-loop
 loop-less c = omega arith

@@ -4,15 +4,16 @@ use mathlib.Core.Path.{sym, _∙_}
 use Prim.Native.Nat.{ℕ, _-_}
 use native.Mathlib.Omega.{arith}
 use Rattle.simple.specs.Inner.{offsetOf, rowShown, rowQuads, sliceQuads}
+use Rattle.voxels.proofs.Loops.{next-fits}
 use Rattle.simple.proofs.Totals.{row-at-most, row-length}
 use Rattle.simple.proofs.Sixes.{room-less}
-use Rattle.simple.proofs.Counting.{counting-room, counting-place}
-use Rattle.simple.proofs.Cursors.{Underway, runs-start, runs-apart, runs-on, runs-done}
+use Rattle.simple.proofs.Counting.{counting-room}
+use Rattle.simple.proofs.Cursors.{Listing, runs-start, runs-apart, runs-on, runs-done}
 use Rattle.simple.proofs.list.list_slice.Statement.{statement}
 use Rattle.simple.proofs.list.list_slice.Tie as tie
 
 abbrev Inv-loop : tie.InvT-loop
-Inv-loop voxels out₀ capacity kernel-strides cursors₀ x wide y high z step k₀ i₀ out cursors k i = Underway step (λ (f : ℕ). rowQuads voxels (offsetOf kernel-strides f) x wide z) (λ (f : ℕ). rowShown voxels (offsetOf kernel-strides f) wide) y i₀ high out₀ cursors₀ out cursors k i
+Inv-loop voxels out₀ capacity kernel-strides cursors₀ x wide y high z step k₀ i₀ out cursors k i = Listing step (λ (f : ℕ). rowQuads voxels (offsetOf kernel-strides f) x wide z) (λ (f : ℕ). rowShown voxels (offsetOf kernel-strides f) wide) y i₀ high out₀ cursors₀ out cursors k i
 
 abbrev μ-loop : tie.MeasureT-loop
 μ-loop voxels out₀ capacity kernel-strides cursors₀ x wide y high z step k₀ i₀ out cursors k i = high - k
@@ -34,10 +35,10 @@ list-row-requires c κs =
     let apart = first .apart in (
       rw (l .inv .long) (h .0),
       (
-        λ f b. rw (l .inv .moved .place) (h .1 .0 f b .each (l .k) taken),
+        λ f b. rw (l .inv .moved .at .place) (h .1 .0 f b .each (l .k) taken),
         (
-          rw (l .inv .moved .place) (h .1 .1 .0 .each (l .k) taken),
-          ((room-less (counting-room (l .inv .moved) (a .y-stride .0) (λ f j. omega (arith, row-at-most (a .voxels .now) (offsetOf (a .kernel-strides) f) (a .wide) j)) (h .1 .1 .1 .0 .0) taken) apart, h .1 .1 .1 .0 .1, omega (arith, counting-place (l .inv .moved) taken (first .last))), runs-apart (l .inv) (λ f. row-length (a .voxels .now) _ _ _ _) taken (h .1 .1 .1 .1)),
+          rw (l .inv .moved .at .place) (h .1 .1 .0 .each (l .k) taken),
+          ((room-less (counting-room (l .inv .moved) (a .y-stride .0) (λ f j. omega (arith, row-at-most (a .voxels .now) (offsetOf (a .kernel-strides) f) (a .wide) j)) (h .1 .1 .1 .0 .0) taken) apart, h .1 .1 .1 .0 .1, omega (arith, next-fits (l .inv .moved .at) taken (first .last))), runs-apart (l .inv) (λ f. row-length (a .voxels .now) _ _ _ _) taken (h .1 .1 .1 .1)),
         ),
       ),
     )
@@ -46,7 +47,7 @@ add-k : tie.Need-add-k Inv-loop μ-loop
 add-k c = search needs
 
 add-i : tie.Need-add-i Inv-loop μ-loop
-add-i c = record { fits = omega (arith, counting-place (c .before .before .before .before .before .before .before .before .loop .inv .moved) (c .before .before .before .before .before .before .before .loop-test .taken) (c .before .before .before .before .before .before .before .before .before .before .before .before .pre .1 .0 0 (omega arith) .last)) }
+add-i c = record { fits = omega (arith, next-fits (c .before .before .before .before .before .before .before .before .loop .inv .moved .at) (c .before .before .before .before .before .before .before .loop-test .taken) (c .before .before .before .before .before .before .before .before .before .before .before .before .pre .1 .0 0 (omega arith) .last)) }
 
 loop-less : tie.Need-loop-less Inv-loop μ-loop
 loop-less c = omega arith

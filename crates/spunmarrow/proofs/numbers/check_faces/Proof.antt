@@ -5,7 +5,7 @@ use Prim.Native.Nat.{_-_, _≤_}
 use native.Mathlib.Omega.{arith}
 use Rattle.geometry.specs.Refusal.{checked}
 use Rattle.geometry.specs.Answers.{permutationMeaning}
-use Rattle.voxels.specs.Extent.{every}
+use Rattle.voxels.specs.Loop.{every}
 use Rattle.voxels.proofs.Asked.{ask-done}
 use Rattle.spunmarrow.specs.Faces.{badNumber, badNumbers}
 use Rattle.spunmarrow.proofs.Six.{face-on, face-stops}
