@@ -7,6 +7,8 @@ pub mod Refusals
 pub mod Orders
 -- From a check's answer to a call's.
 pub mod Answers
+-- Of lists.
+pub mod Lists
 -- Of signs and their bits.
 pub mod Signs
 -- Of permutations and signed axes.

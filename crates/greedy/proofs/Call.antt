@@ -1,8 +1,8 @@
 -- Demand 3, carried to the call: from the contract of `greedy_quads` alone, what every call that answers 0 leaves, and what refusal 9 leaves.
 use mathlib.Core.Bool.{false, _&&_}
 use mathlib.Core.List.{List, [], _∷_, _++_, map}
-use mathlib.Core.Path.{_≡_, refl, sym, _∙_, ap}
-use Prim.Native.Nat.{ℕ, _+_}
+use mathlib.Core.Path.{_≡_, refl, _∙_, ap}
+use Prim.Native.Nat.{ℕ}
 use native.Mathlib.Omega.{arith}
 use lib.ListN.{length, take, drop, take-append-drop}
 use contract.Lifetimes
@@ -14,18 +14,19 @@ use Rattle.geometry.specs.declared.face.OrientedBlockFace.{OrientedBlockFace}
 use Rattle.geometry.specs.Refusal.{accepted, Check, checked}
 use Rattle.geometry.specs.Point.{Point}
 use Rattle.geometry.specs.Axes.{bit}
+use Rattle.geometry.specs.Lists.{howMany}
+use Rattle.geometry.proofs.Lists.{each-all, each-up}
 use Rattle.voxels.specs.Shape.{Field, field}
-use Rattle.voxels.specs.Extent.{interior, Each, inside, howMany}
+use Rattle.voxels.specs.Extent.{interior, inside}
 use Rattle.voxels.specs.Visible.{visible}
 use Rattle.voxels.specs.Checks.{greedyChecks}
-use Rattle.voxels.proofs.Scan.{each-up}
 use Rattle.voxels.proofs.Passed.{greedy-passed}
 use Rattle.voxels.proofs.Numbered.{entryNumber, greedy-never}
 use Rattle.listing.specs.Listing.{Laid, lay}
 use Rattle.listing.specs.Outcome.{meshAnswer, reported, listedAfter}
-use Rattle.listing.specs.Cut.{groupsIn, Matched}
+use Rattle.listing.specs.Cut.{groupsIn}
 use Rattle.listing.proofs.Outcome.{entry-passed, entry-by-number, zero-reported}
-use Rattle.listing.proofs.Cut.{matched-first, first-joined, zero-groups, nine-place, nine-first}
+use Rattle.listing.proofs.Cut.{matched-each, matched-first, first-joined, zero-groups, nine-place, nine-first}
 use Rattle.rules.specs.Group.{contains}
 use Rattle.rules.specs.Greedy.{greedyGroup, greedyGroups, greedyTests}
 use Rattle.rules.specs.Demand.{covers, Consistent}
@@ -37,21 +38,10 @@ use Rattle.greedy.specs.Greedy.{Listed, listed, quadNumbers, numbersOf, 
 use Rattle.greedy.specs.Call.{quadFrom, Meshed, TestsBounded, CallHolds, PartMeshed, NineHolds}
 use Rattle.greedy.proofs.Outcome.{numbers-length}
 use Rattle.voxels.specs.declared.extent.Extent.{Extent}
-use Rattle.listing.specs.declared.MeshAnswer.{MeshAnswer}
 use Rattle.greedy.specs.declared.GreedyAnswer.{GreedyAnswer}
 use Rattle.greedy.proofs.greedy_quads
 use Rattle.greedy.proofs.greedy_quads.Kinds as greedy-quads-kinds
 use Rattle.greedy.proofs.greedy_quads.Reads as greedy-quads
-
-matched-each : {A B : Type 0} (P : A → B → Type 0) (g : A → B) (l : List A) → Each (λ (a : A). P a (g a)) l → Matched P l (map g l)
-unfolding Matched Each
-matched-each P g [] h = tt
-matched-each P g (a ∷ l) h = (h .0, matched-each P g l (h .1))
-
-each-all : {A : Type 0} (P : A → Type 0) → ((a : A) → P a) → (l : List A) → Each P l
-unfolding Each
-each-all P h [] = tt
-each-all P h (a ∷ l) = (h a, each-all P h l)
 
 -- A quad is read back from its numbers.
 quad-back : (l : Listed) (rest : List ℕ) → quadFrom (numbersOf l ++ rest) ≡ l .quad

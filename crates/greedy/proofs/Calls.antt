@@ -4,14 +4,15 @@ use Rattle.geometry.specs.Refusal.{answer}
 use Rattle.geometry.specs.Point.{along, put, moved}
 use Rattle.geometry.specs.Axes.{same}
 use Rattle.geometry.specs.Checks.{properSign}
+use Rattle.geometry.specs.Lists.{Each}
 use Rattle.voxels.specs.Voxel.{class, mergeValue, shows, uniform}
 use Rattle.voxels.specs.Shape.{size, index, field}
-use Rattle.voxels.specs.Extent.{scan, Each}
+use Rattle.voxels.specs.Extent.{scan}
 use Rattle.voxels.specs.Loop.{looped}
 use Rattle.voxels.specs.Checks.{boundsChecks, badAxis, badFacesFrom, badVoxels}
+use Rattle.voxels.specs.Visible.{stepped, visible}
 use Rattle.listing.specs.Listing.{joined, overwritten, capacity, lay}
 use Rattle.listing.specs.Outcome.{listedAfter}
-use Rattle.voxels.specs.Visible.{stepped, visible}
 use Rattle.rules.specs.Group.{sliceAt, sweep, among, contains, visited, passes, scanned, swept, group}
 use Rattle.rules.specs.Merger.{follows, rowWalk, rowsWalk, voxelMerger}
 use Rattle.rules.specs.Greedy.{greedyGroup, greedyTests}

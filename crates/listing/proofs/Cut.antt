@@ -9,6 +9,7 @@ use lib.ListN.{length, take, drop, length-append, length-drop}
 use lib.Seq.{drop-at, length-take-le, take-all}
 use borrow.Author.Tests.{ltb-true, ltb-false}
 use Rattle.geometry.specs.Refusal.{answer}
+use Rattle.geometry.specs.Lists.{Each}
 use Rattle.geometry.proofs.Refusals.{split}
 use Rattle.listing.specs.declared.MeshAnswer.{MeshAnswer}
 use Rattle.listing.specs.Listing.{joined, overwritten, capacity, lay}
@@ -19,10 +20,10 @@ use Rattle.listing.proofs.Pushed.{lay-many, lay-fits}
 -- ---- lists, item by item
 
 -- What holds of each with what it gives holds of the two lists.
-pub matched-map : {A B : Type 0} (P : A → B → Type 0) (g : A → B) → ((a : A) → P a (g a)) → (l : List A) → Matched P l (map g l)
-unfolding Matched
-matched-map P g h [] = tt
-matched-map P g h (a ∷ l) = (h a, matched-map P g h l)
+pub matched-each : {A B : Type 0} (P : A → B → Type 0) (g : A → B) (l : List A) → Each (λ (a : A). P a (g a)) l → Matched P l (map g l)
+unfolding Matched Each
+matched-each P g [] h = tt
+matched-each P g (a ∷ l) h = (h .0, matched-each P g l (h .1))
 
 -- So of the first items of what each gives.
 pub matched-first : {A B : Type 0} (P : A → List B → Type 0) (g : A → List B) → ((a : A) (m : ℕ) → P a (take m (g a))) → (n : ℕ) (l : List A) → Matched P l (firstOf n (map g l))

@@ -10,17 +10,19 @@ use Rattle.geometry.specs.declared.quad.UnorientedQuad.{UnorientedQuad}
 use Rattle.geometry.specs.declared.face.OrientedBlockFace.{OrientedBlockFace}
 use Rattle.geometry.specs.Point.{Point}
 use Rattle.geometry.specs.Axes.{bit}
+use Rattle.geometry.specs.Lists.{howMany}
 use Rattle.geometry.proofs.Refusals.{split}
-use Rattle.voxels.specs.declared.extent.Extent.{Extent}
+use Rattle.geometry.proofs.Lists.{each-up}
 use Rattle.voxels.specs.Shape.{Field}
-use Rattle.voxels.specs.Extent.{Inside, scan, inside, howMany}
+use Rattle.voxels.specs.Extent.{Inside, scan, inside}
 use Rattle.voxels.specs.Visible.{visible}
-use Rattle.voxels.proofs.Scan.{each-up, scan-inside}
+use Rattle.voxels.proofs.Scan.{scan-inside}
 use Rattle.voxels.proofs.Times.{inside-true, inside-yes}
 use Rattle.rules.specs.Group.{contains}
 use Rattle.rules.specs.Demand.{covers, area, sumOf, Cover, Areas, Consistent}
 use Rattle.rules.proofs.Counts.{sum-plus, sum-same, sum-none, sum-bits}
 use Rattle.rules.proofs.Contains.{contained-area}
+use Rattle.voxels.specs.declared.extent.Extent.{Extent}
 
 module _ (f : OrientedBlockFace) (v : Field) (inner : Extent) where
   -- A point that consistent quads cover is interior.

@@ -6,16 +6,17 @@ use lib.ListN.{length}
 use Rattle.geometry.specs.declared.face.OrientedBlockFace.{OrientedBlockFace}
 use Rattle.geometry.specs.Point.{Point}
 use Rattle.geometry.specs.Axes.{uAxis}
+use Rattle.geometry.specs.Lists.{Each}
 use Rattle.geometry.proofs.Refusals.{split}
-use Rattle.voxels.specs.declared.extent.Extent.{Extent}
 use Rattle.voxels.specs.Shape.{Field}
-use Rattle.voxels.specs.Extent.{Inside, Each}
+use Rattle.voxels.specs.Extent.{Inside}
 use Rattle.rules.specs.Group.{passes, roomU, roomV, State, scanned, swept}
 use Rattle.rules.specs.Merger.{voxelMerger}
 use Rattle.rules.specs.Demand.{area, sumOf}
 use Rattle.rules.proofs.Counts.{sum-append}
 use Rattle.rules.proofs.Covers.{found}
 use Rattle.rules.proofs.Picks.{walk-cheap}
+use Rattle.voxels.specs.declared.extent.Extent.{Extent}
 
 module _ (f : OrientedBlockFace) (v : Field) (inner : Extent) where
   -- What scanning a point adds to the tests is at most one, and three times what it adds to the areas;

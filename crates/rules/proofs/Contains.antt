@@ -12,8 +12,9 @@ use Rattle.geometry.specs.Point.{Point, along}
 use Rattle.geometry.specs.Axes.{nAxis, uAxis, vAxis, bit}
 use Rattle.geometry.proofs.Tests.{both-true}
 use Rattle.geometry.proofs.Frame.{moved-on, moved-off, one-point, frame}
+use Rattle.geometry.proofs.Lists.{each-up}
 use Rattle.voxels.specs.Extent.{Inside, scan, inside}
-use Rattle.voxels.proofs.Scan.{each-up, scan-inside}
+use Rattle.voxels.proofs.Scan.{scan-inside}
 use Rattle.voxels.proofs.Times.{inside-true, inside-yes}
 use Rattle.rules.specs.Group.{among, contains}
 use Rattle.rules.specs.Demand.{area, sumOf, points}

@@ -11,13 +11,14 @@ use Rattle.geometry.specs.declared.axis.Axis.{Axis}
 use Rattle.geometry.specs.declared.axis.Axis.the-variants.{X, Y, Z}
 use Rattle.geometry.specs.Point.{Point, along}
 use Rattle.geometry.specs.Axes.{bit}
-use Rattle.voxels.specs.declared.extent.Extent.{Extent}
-use Rattle.voxels.specs.Extent.{Inside, scan, Each, inside, samePoint, times, howMany}
+use Rattle.geometry.specs.Lists.{Each, howMany}
+use Rattle.geometry.proofs.Lists.{each-up}
+use Rattle.voxels.specs.Extent.{Inside, scan, inside, samePoint, times}
 use Rattle.voxels.specs.Loop.{stepBy, every}
 use Rattle.voxels.proofs.Loops.{loop-length, sum-constant}
-use Rattle.voxels.proofs.Scan.{each-up}
 use Rattle.voxels.proofs.Times.{inside-yes, same-true, same-itself, scan-once}
 use Rattle.rules.specs.Demand.{sumOf, points}
+use Rattle.voxels.specs.declared.extent.Extent.{Extent}
 
 -- ---- sums
 

@@ -10,12 +10,13 @@ use Rattle.geometry.specs.declared.quad.UnorientedQuad.{UnorientedQuad}
 use Rattle.geometry.specs.declared.face.OrientedBlockFace.{OrientedBlockFace}
 use Rattle.geometry.specs.Point.{Point}
 use Rattle.geometry.specs.Axes.{nAxis, uAxis, vAxis, bit}
+use Rattle.geometry.specs.Lists.{Each, howMany}
 use Rattle.geometry.proofs.Refusals.{split}
 use Rattle.geometry.proofs.Tests.{both-true}
+use Rattle.geometry.proofs.Lists.{each-append}
 use Rattle.voxels.specs.Shape.{Field}
-use Rattle.voxels.specs.Extent.{Inside, Each, inside, howMany}
+use Rattle.voxels.specs.Extent.{Inside, inside}
 use Rattle.voxels.specs.Visible.{visible}
-use Rattle.voxels.proofs.Scan.{each-append}
 use Rattle.voxels.proofs.Times.{inside-true}
 use Rattle.rules.specs.Group.{sweep, passes, Choice, roomU, roomV, State, scanned, swept, quadOf}
 use Rattle.rules.specs.Demand.{covers, Cover, InSlice, Consistent}

@@ -6,9 +6,10 @@ use Rattle.geometry.specs.declared.axis.SignedAxis.the-variants.{PosZ}
 use Rattle.geometry.specs.declared.face.OrientedBlockFace.{OrientedBlockFace}
 use Rattle.geometry.specs.Point.{at, along, put, moved}
 use Rattle.geometry.specs.Axes.{nAxis}
+use Rattle.geometry.specs.Lists.{Each, howMany}
 use Rattle.voxels.specs.Voxel.{class, mergeValue, shows, uniform}
 use Rattle.voxels.specs.Shape.{Field, size, index, field}
-use Rattle.voxels.specs.Extent.{scan, Each, howMany}
+use Rattle.voxels.specs.Extent.{scan}
 use Rattle.voxels.specs.Loop.{looped}
 use Rattle.voxels.specs.Visible.{stepped, visible}
 use Rattle.rules.specs.Group.{sliceAt, sweep, among, contains, visited, passes, Choice, roomU, roomV, State, scanned, swept, fresh, group}

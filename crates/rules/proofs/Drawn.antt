@@ -14,14 +14,16 @@ use Rattle.geometry.specs.Point.{Point}
 use Rattle.geometry.specs.Axes.{uAxis, vAxis}
 use Rattle.geometry.specs.Corners.{corner}
 use Rattle.geometry.specs.Statements.{unitQuadAt, Drawn}
+use Rattle.geometry.specs.Lists.{Each}
 use Rattle.geometry.proofs.Limits.{bounds-limits}
 use Rattle.geometry.proofs.Corners.{farU, farV, corner-n, corner-u, corner-v}
 use Rattle.geometry.proofs.Drawn.{drawn}
+use Rattle.geometry.proofs.Lists.{each-up, each-those}
 use Rattle.voxels.specs.Shape.{Field}
-use Rattle.voxels.specs.Extent.{interior, Inside, scan, Each}
+use Rattle.voxels.specs.Extent.{interior, Inside, scan}
 use Rattle.voxels.specs.Visible.{visible}
 use Rattle.voxels.specs.Checks.{boundsChecks, badFaces}
-use Rattle.voxels.proofs.Scan.{each-up, each-those, scan-inside}
+use Rattle.voxels.proofs.Scan.{scan-inside}
 use Rattle.voxels.proofs.Held.{max-below}
 use Rattle.voxels.proofs.Faces.{Proper, faces-proper}
 use Rattle.rules.specs.Unit.{unitGroup}

@@ -11,13 +11,15 @@ use Rattle.geometry.specs.declared.quad.UnorientedQuad.{UnorientedQuad}
 use Rattle.geometry.specs.declared.face.OrientedBlockFace.{OrientedBlockFace}
 use Rattle.geometry.specs.Point.{Point, along}
 use Rattle.geometry.specs.Axes.{nAxis, uAxis, vAxis, bit}
+use Rattle.geometry.specs.Lists.{Each, howMany}
 use Rattle.geometry.proofs.Refusals.{split}
 use Rattle.geometry.proofs.Tests.{both-true}
 use Rattle.geometry.proofs.Frame.{one-point, frame}
+use Rattle.geometry.proofs.Lists.{each-up}
 use Rattle.voxels.specs.Shape.{Field}
-use Rattle.voxels.specs.Extent.{Inside, Each, inside, howMany}
+use Rattle.voxels.specs.Extent.{Inside, inside}
 use Rattle.voxels.specs.Visible.{visible}
-use Rattle.voxels.proofs.Scan.{each-up, scan-inside, inside-scan}
+use Rattle.voxels.proofs.Scan.{scan-inside, inside-scan}
 use Rattle.voxels.proofs.Times.{inside-yes}
 use Rattle.rules.specs.Group.{contains, visited, passes, Pick, Choice, roomU, roomV, quadOf}
 use Rattle.rules.specs.Merger.{pick}

@@ -8,13 +8,15 @@ use Rattle.geometry.specs.declared.axis.Axis.{Axis}
 use Rattle.geometry.specs.declared.face.OrientedBlockFace.{OrientedBlockFace}
 use Rattle.geometry.specs.Point.{Point, along, put}
 use Rattle.geometry.specs.Axes.{nAxis, uAxis, vAxis}
+use Rattle.geometry.specs.Lists.{Each}
 use Rattle.geometry.proofs.Frame.{put-on, put-off, this-or-other, frame}
-use Rattle.voxels.specs.declared.extent.Extent.{Extent}
-use Rattle.voxels.specs.Extent.{Inside, scan, Each}
-use Rattle.voxels.proofs.Scan.{each-up, each-every, every-each, scan-inside, inside-scan}
+use Rattle.geometry.proofs.Lists.{each-up}
+use Rattle.voxels.specs.Extent.{Inside, scan}
+use Rattle.voxels.proofs.Scan.{each-every, every-each, scan-inside, inside-scan}
 use Rattle.rules.specs.Group.{sliceAt, sweep}
 use Rattle.rules.specs.Demand.{points}
 use Rattle.rules.proofs.Counts.{span, every-length, scan-length}
+use Rattle.voxels.specs.declared.extent.Extent.{Extent}
 
 module _ (a : Axis) (e : Extent) where
   -- A slice lies in the extent,

@@ -7,9 +7,10 @@ use Rattle.geometry.specs.Quad.{minimumWithinLimits, sideWithinLimits, withinLi
 use Rattle.geometry.specs.Checks.{properSign}
 use Rattle.geometry.specs.Corners.{base, corner, quadCorners}
 use Rattle.geometry.specs.Textures.{flipsU, quadTextures}
+use Rattle.geometry.specs.Lists.{those, Each}
 use Rattle.voxels.specs.Voxel.{class, mergeValue, shows, uniform}
 use Rattle.voxels.specs.Shape.{size, index, field}
-use Rattle.voxels.specs.Extent.{scan, those, Each}
+use Rattle.voxels.specs.Extent.{scan}
 use Rattle.voxels.specs.Loop.{looped}
 use Rattle.voxels.specs.Visible.{stepped, visible}
 use Rattle.rules.specs.Group.{sliceAt, sweep, among, contains, visited, passes, scanned, swept, group}

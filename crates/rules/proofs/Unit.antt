@@ -7,13 +7,14 @@ use Rattle.geometry.specs.declared.face.OrientedBlockFace.{OrientedBlockFace}
 use Rattle.geometry.specs.Point.{Point}
 use Rattle.geometry.specs.Axes.{uAxis, vAxis, bit}
 use Rattle.geometry.specs.Statements.{unitQuadAt}
-use Rattle.voxels.specs.declared.extent.Extent.{Extent}
+use Rattle.geometry.proofs.Lists.{those-count}
 use Rattle.voxels.specs.Shape.{Field}
 use Rattle.voxels.specs.Extent.{Inside, scan, inside}
 use Rattle.voxels.specs.Visible.{visible}
-use Rattle.voxels.proofs.Times.{scan-once, times-those, those-count}
+use Rattle.voxels.proofs.Times.{scan-once, times-those}
 use Rattle.rules.specs.Unit.{unitGroup, UnitHolds}
 use Rattle.rules.specs.Demand.{InSlice}
+use Rattle.voxels.specs.declared.extent.Extent.{Extent}
 
 -- Both of two tests.
 bit-both : (a b : Bool) → bit b * bit a ≡ bit (a && b)

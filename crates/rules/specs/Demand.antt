@@ -12,9 +12,10 @@ use Rattle.geometry.specs.declared.quad.UnorientedQuad.{UnorientedQuad}
 use Rattle.geometry.specs.declared.face.OrientedBlockFace.{OrientedBlockFace}
 use Rattle.geometry.specs.Point.{Point, along}
 use Rattle.geometry.specs.Axes.{uAxis, vAxis, bit}
+use Rattle.geometry.specs.Lists.{howMany}
 use Rattle.voxels.specs.Voxel.{uniform}
 use Rattle.voxels.specs.Shape.{Field}
-use Rattle.voxels.specs.Extent.{Inside, scan, inside, howMany}
+use Rattle.voxels.specs.Extent.{Inside, scan, inside}
 use Rattle.voxels.specs.Visible.{visible}
 use Rattle.rules.specs.Group.{contains, State}
 use Rattle.voxels.specs.declared.extent.Extent.{Extent}

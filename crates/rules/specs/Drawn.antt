@@ -10,11 +10,11 @@ use Rattle.geometry.specs.Point.{Point, along}
 use Rattle.geometry.specs.Axes.{nAxis, uAxis, vAxis}
 use Rattle.geometry.specs.Corners.{corner}
 use Rattle.geometry.specs.Statements.{unitQuadAt, Drawn}
-use Rattle.voxels.specs.declared.extent.Extent.{Extent}
+use Rattle.geometry.specs.Lists.{Each}
 use Rattle.voxels.specs.Shape.{Field}
-use Rattle.voxels.specs.Extent.{Each}
 use Rattle.rules.specs.Unit.{unitGroup}
 use Rattle.rules.specs.Greedy.{greedyGroup}
+use Rattle.voxels.specs.declared.extent.Extent.{Extent}
 
 -- Every quad of a face's group can be drawn: it is within the quad limits on that face, and nothing that the drawing code asks about it is refused.
 abbrev pub GroupDrawn : Extent → Field → OrientedBlockFace → Type 0

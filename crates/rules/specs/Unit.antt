@@ -6,10 +6,11 @@ use lib.ListN.{length}
 use Rattle.geometry.specs.declared.face.OrientedBlockFace.{OrientedBlockFace}
 use Rattle.geometry.specs.Point.{Point}
 use Rattle.geometry.specs.Axes.{bit}
-use Rattle.voxels.specs.declared.extent.Extent.{Extent}
+use Rattle.geometry.specs.Lists.{those, howMany}
 use Rattle.voxels.specs.Shape.{Field}
-use Rattle.voxels.specs.Extent.{scan, those, inside, times, howMany}
+use Rattle.voxels.specs.Extent.{scan, inside, times}
 use Rattle.voxels.specs.Visible.{visible}
+use Rattle.voxels.specs.declared.extent.Extent.{Extent}
 
 -- "A group lists the minima .. of all visible interior voxels in scan order" (61 to 86). The Rust walks the interior once and appends to each face's group as it goes;
 -- each group on its own is this.

@@ -1,7 +1,7 @@
 -- What a call leaves, from the contract of `visible_block_faces` alone: what every call that answers 0 leaves, and what refusal 9 leaves.
 use mathlib.Core.Bool.{false}
 use mathlib.Core.List.{List, [], _∷_, _++_, map}
-use mathlib.Core.Path.{_≡_, refl, sym, _∙_, ap}
+use mathlib.Core.Path.{_≡_, refl, _∙_, ap}
 use Prim.Native.Nat.{ℕ}
 use lib.ListN.{length}
 use contract.Lifetimes
@@ -11,17 +11,17 @@ use denote.Triple.Clauses
 use Rattle.geometry.specs.declared.face.OrientedBlockFace.{OrientedBlockFace}
 use Rattle.geometry.specs.Refusal.{accepted, Check, checked}
 use Rattle.geometry.specs.Point.{Point}
+use Rattle.geometry.proofs.Lists.{each-up}
 use Rattle.voxels.specs.Shape.{Field, field}
-use Rattle.voxels.specs.Extent.{interior, Each}
+use Rattle.voxels.specs.Extent.{interior}
 use Rattle.voxels.specs.Checks.{unitChecks}
 use Rattle.voxels.proofs.Passed.{unit-passed}
 use Rattle.voxels.proofs.Numbered.{entryNumber, unit-never}
-use Rattle.voxels.proofs.Scan.{each-up}
 use Rattle.listing.specs.Listing.{lay}
 use Rattle.listing.specs.Outcome.{listedAfter, MeshOutcome, outcome, listedOutcome}
-use Rattle.listing.specs.Cut.{groupsIn, Matched}
+use Rattle.listing.specs.Cut.{groupsIn}
 use Rattle.listing.proofs.Outcome.{entry-passed, entry-by-number}
-use Rattle.listing.proofs.Cut.{zero-groups, nine-place, nine-first}
+use Rattle.listing.proofs.Cut.{matched-each, zero-groups, nine-place, nine-first}
 use Rattle.rules.specs.Unit.{unitGroup, unitGroups}
 use Rattle.rules.specs.Drawn.{UnitDrawn}
 use Rattle.rules.proofs.Unit.{unit-holds}
@@ -34,11 +34,6 @@ use Rattle.listing.specs.declared.MeshAnswer.{MeshAnswer}
 use Rattle.simple.proofs.visible_block_faces
 use Rattle.simple.proofs.visible_block_faces.Kinds as visible-block-faces-kinds
 use Rattle.simple.proofs.visible_block_faces.Reads as visible-block-faces
-
-matched-each : {A B : Type 0} (P : A → B → Type 0) (g : A → B) (l : List A) → Each (λ (a : A). P a (g a)) l → Matched P l (map g l)
-unfolding Matched Each
-matched-each P g [] h = tt
-matched-each P g (a ∷ l) h = (h .0, matched-each P g l (h .1))
 
 -- A unit quad is read back from its numbers.
 minimum-back : (p : Point) (rest : List ℕ) → minimumFrom (numbersOf p ++ rest) ≡ p

@@ -9,7 +9,8 @@ use Rattle.geometry.specs.Point.{Point, at}
 use Rattle.geometry.specs.Statements.{unitQuadAt, Drawn}
 use Rattle.voxels.specs.declared.extent.Extent.{Extent}
 use Rattle.voxels.specs.Shape.{Field, field}
-use Rattle.voxels.specs.Extent.{interior, Each}
+use Rattle.voxels.specs.Extent.{interior}
+use Rattle.geometry.specs.Lists.{Each}
 use Rattle.listing.specs.declared.MeshAnswer.{MeshAnswer}
 use Rattle.listing.specs.Listing.{joined, capacity}
 use Rattle.listing.specs.Cut.{itemsIn, groupsIn, Matched}

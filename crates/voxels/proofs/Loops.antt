@@ -1,5 +1,5 @@
 -- Loops: where one stands, and the laws of the one fold `looped`, whatever it joins. Lists end to end, sums, and what is done to a state are its instances.
-use mathlib.Core.List.{List, [], _++_, append-nil, append-assoc}
+use mathlib.Core.List.{List, [], append-nil, append-assoc, _++_}
 use mathlib.Core.Path.{_≡_, refl, sym, _∙_, ap}
 use Prim.Native.Nat.{ℕ, zero, suc, _+_, _-_, _*_, _≤_, _<_}
 use native.Mathlib.Nat.{add-zero, zero-add, add-assoc, sub-zero, suc-add, zero-mul, suc-mul, add-mul, one-mul, add-le-add, mul-le-mul-right, not-suc-le-zero}

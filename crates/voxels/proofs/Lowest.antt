@@ -10,15 +10,17 @@ use borrow.Author.Tests.{eqb-false}
 use Rattle.geometry.specs.declared.axis.Axis.the-variants.{X, Y, Z}
 use Rattle.geometry.specs.Point.{Point, along}
 use Rattle.geometry.specs.Refusal.{accepted, refused, Check, answer, checked}
+use Rattle.geometry.specs.Lists.{Each}
 use Rattle.geometry.proofs.Refusals.{split, refused-number, refused-place, not-both, applies, passes, first-passes, rest-accepts}
+use Rattle.geometry.proofs.Lists.{each-up}
 use Rattle.voxels.specs.Voxel.{class}
 use Rattle.voxels.specs.Shape.{index, stride, field}
-use Rattle.voxels.specs.Extent.{box, interior, scan, Inside, Each}
+use Rattle.voxels.specs.Extent.{box, interior, scan, Inside}
 use Rattle.voxels.specs.Loop.{looped, every}
 use Rattle.voxels.specs.Checks.{badVoxelAt, badVoxels}
 use Rattle.voxels.specs.Statements.{LowestBad, NoneBad}
 use Rattle.voxels.specs.Inner.{Held, SoundAround, row, rows, slices}
-use Rattle.voxels.proofs.Scan.{each-up, scan-inside, inside-scan}
+use Rattle.voxels.proofs.Scan.{scan-inside, inside-scan}
 use Rattle.voxels.proofs.Voxels.{class-small}
 use Rattle.voxels.proofs.Held.{each-flat}
 use Rattle.voxels.proofs.Steps.{along-next}

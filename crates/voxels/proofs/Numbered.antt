@@ -1,18 +1,19 @@
 -- The numbers that an entry may give: neither 0, by which an accepted call is known, nor 9, which comes after the entry. So an answer of 0 or 9 is of a call whose entry passed.
 use mathlib.Core.Bool.{Bool, true, false, not, _&&_, false≢true}
 use mathlib.Core.List.{List, [], _∷_, _++_, map}
-use mathlib.Core.Path.{_≡_, refl, sym, _∙_, ap}
+use mathlib.Core.Path.{_≡_, refl, sym, _∙_}
 use Prim.Native.Nat.{ℕ, _+_}
 use lib.Dec.{eqb}
 use lib.ListN.{length}
 use Rattle.geometry.specs.declared.face.OrientedBlockFace.{OrientedBlockFace}
 use Rattle.geometry.specs.Refusal.{refused, Check, checked, answer}
 use Rattle.geometry.specs.Point.{Point}
+use Rattle.geometry.specs.Lists.{Each}
 use Rattle.geometry.proofs.Refusals.{split, applies, passes, refused-number, not-both}
+use Rattle.geometry.proofs.Lists.{each-append}
 use Rattle.voxels.specs.Shape.{index}
-use Rattle.voxels.specs.Extent.{box, scan, Each}
+use Rattle.voxels.specs.Extent.{box, scan}
 use Rattle.voxels.specs.Checks.{boundsChecks, badFacesFrom, badFaces, fewVisited, badVoxelAt, badVoxels, unitChecks, greedyChecks}
-use Rattle.voxels.proofs.Scan.{each-append}
 
 -- Whether an entry may give a number.
 abbrev pub entryNumber : ℕ → Bool

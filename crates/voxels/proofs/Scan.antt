@@ -8,9 +8,11 @@ use native.Mathlib.Nat.{mul-one}
 use native.Mathlib.Omega.{arith}
 use Rattle.geometry.specs.declared.axis.Axis.the-variants.{X, Y, Z}
 use Rattle.geometry.specs.Point.{Point, at, along}
+use Rattle.geometry.specs.Lists.{those, Each}
 use Rattle.geometry.proofs.Refusals.{split}
+use Rattle.geometry.proofs.Lists.{each-append, each-left, each-right}
 use Rattle.voxels.specs.Shape.{index, stride}
-use Rattle.voxels.specs.Extent.{Inside, upTo, scan, those, Each}
+use Rattle.voxels.specs.Extent.{Inside, upTo, scan}
 use Rattle.voxels.specs.Loop.{stepBy, every, stand, onBy, inStep}
 use Rattle.voxels.specs.Inner.{gathered, kept, row, rows, slices}
 use Rattle.voxels.proofs.Loops.{onward-by, onward-both, loop-carried, loops-same, loop-keeps, loop-gives}
@@ -86,41 +88,14 @@ flat-scan shape f g e same =
 -- ---- what holds of each point of an extent
 
 module _ {A : Type 0} (P : A → Type 0) where
-  pub each-append : (l m : List A) → Each P l → Each P m → Each P (l ++ m)
-  unfolding Each
-  each-append [] m hl hm = hm
-  each-append (a ∷ l) m hl hm = (hl .0, each-append l m (hl .1) hm)
-
-  pub each-left : (l m : List A) → Each P (l ++ m) → Each P l
-  unfolding Each
-  each-left [] m h = tt
-  each-left (a ∷ l) m h = (h .0, each-left l m (h .1))
-
-  pub each-right : (l m : List A) → Each P (l ++ m) → Each P m
-  unfolding Each
-  each-right [] m h = h
-  each-right (a ∷ l) m h = each-right l m (h .1)
-
-  -- Of those that pass a test it holds too.
-  pub each-those : (test : A → Bool) (l : List A) → Each P l → Each P (those test l)
-  unfolding Each those
-  each-those test [] h = tt
-  each-those test (a ∷ l) h = split (test a) (λ t. rw (t, those) (h .0, each-those test l (h .1))) (λ f. rw (f, those) (each-those test l (h .1)))
-
   -- A loop gives what holds of each where each of its lists does,
   pub each-every : (g : ℕ → List A) (n a : ℕ) → ((k : ℕ) → k < n → Each P (g (a + k))) → Each P (every 1 a n g)
   unfolding Each
-  each-every g n a h = loop-keeps (Each P) tt each-append (stepBy 1) g n a (λ k l. rw (onward-by 1 a k, mul-one) (h k l))
+  each-every g n a h = loop-keeps (Each P) tt (each-append P) (stepBy 1) g n a (λ k l. rw (onward-by 1 a k, mul-one) (h k l))
 
   -- and only there.
   pub every-each : (g : ℕ → List A) (n a : ℕ) → Each P (every 1 a n g) → (k : ℕ) → k < n → Each P (g (a + k))
-  every-each g n a h k l = rw (onward-by 1 a k, mul-one) at (loop-gives [] (Each P) (λ l m both. (each-left l m both, each-right l m both)) (stepBy 1) g n a h k l)
-
--- What follows from something that holds of each holds of each.
-pub each-up : {A : Type 0} (P Q : A → Type 0) → ((a : A) → P a → Q a) → (l : List A) → Each P l → Each Q l
-unfolding Each
-each-up P Q f [] h = tt
-each-up P Q f (a ∷ l) h = (f a (h .0), each-up P Q f l (h .1))
+  every-each g n a h k l = rw (onward-by 1 a k, mul-one) at (loop-gives [] (Each P) (λ l m both. (each-left P l m both, each-right P l m both)) (stepBy 1) g n a h k l)
 
 -- Every point of the scan lies in the extent,
 pub scan-inside : (e : Extent) → Each (Inside e) (scan e)

@@ -6,17 +6,18 @@ use Prim.Native.Nat.{ℕ, zero, suc, _+_, _*_, _≤_, _<_}
 use native.Mathlib.Nat.{add-zero, zero-add}
 use native.Mathlib.Omega.{arith}
 use lib.Dec.{eqb, leb, ltb}
-use lib.ListN.{length}
 use borrow.Author.Tests.{eqb-true, eqb-false, eq-eqb, ne-eqb, leb-true, ltb-true, le-leb, lt-ltb}
 use Rattle.geometry.specs.declared.axis.Axis.the-variants.{X, Y, Z}
 use Rattle.geometry.specs.Point.{Point, at, along}
 use Rattle.geometry.specs.Axes.{bit}
+use Rattle.geometry.specs.Lists.{those, Each}
 use Rattle.geometry.proofs.Refusals.{split}
 use Rattle.geometry.proofs.Tests.{both-true}
-use Rattle.voxels.specs.Extent.{Inside, scan, those, Each, between, inside, samePoint, times, howMany}
+use Rattle.geometry.proofs.Lists.{each-up}
+use Rattle.voxels.specs.Extent.{Inside, scan, between, inside, samePoint, times}
 use Rattle.voxels.specs.Loop.{looped, stepBy, every}
 use Rattle.voxels.proofs.Loops.{onward-by, loop-keeps}
-use Rattle.voxels.proofs.Scan.{each-every, each-up, scan-inside}
+use Rattle.voxels.proofs.Scan.{each-every, scan-inside}
 use Rattle.voxels.specs.declared.extent.Extent.{Extent}
 
 -- ---- tests
@@ -149,9 +150,3 @@ module _ (p : Point) where
       split (test q)
       (λ t. rw (t, those, o, zero-add (times p l)) (zero-add (times p (those test l)) ∙ before))
       (λ f. rw (f, those, o, zero-add (times p l)) before))
-
--- As many as pass are left.
-pub those-count : {A : Type 0} (test : A → Bool) (l : List A) → length (those test l) ≡ howMany test l
-unfolding those howMany
-those-count test [] = refl
-those-count test (a ∷ l) = split (test a) (λ t. rw (t, those, those-count test l) (omega arith)) (λ f. rw (f, those, those-count test l) (omega arith))

@@ -1,10 +1,9 @@
 -- What private functions require and promise, here and in the meshers. No public contract uses these.
 use mathlib.Core.Bool.{Bool, true, false}
-use mathlib.Core.List.{List, [], _∷_, _++_, map}
+use mathlib.Core.List.{List, [], _∷_, _++_}
 use mathlib.Core.Path.{_≡_}
-use Prim.Native.Nat.{ℕ, zero, suc, _+_, _*_, _≤_, _<_}
-use lib.Dec.{ltb}
-use lib.ListN.{length, getD, set}
+use Prim.Native.Nat.{ℕ, _+_, _*_, _≤_, _<_}
+use lib.ListN.{getD}
 use Rattle.geometry.specs.declared.axis.Axis.{Axis}
 use Rattle.geometry.specs.Point.{Point, along}
 use Rattle.geometry.specs.Refusal.{Check}
@@ -93,4 +92,3 @@ pub record RowsLent (lent i wide d high : ℕ) : Type 0 where
 pub record SlicesLent (lent i wide d high e deep : ℕ) : Type 0 where
   pub each : (k : ℕ) → k < deep → RowsLent lent (i + k * e) wide d high
   pub last : i + deep * e ≤ 2 * mostVoxels
-
