@@ -13,7 +13,7 @@ use Rattle.voxels.specs.Extent.{scan}
 use Rattle.voxels.specs.Loop.{looped}
 use Rattle.voxels.specs.Visible.{stepped, visible}
 use Rattle.rules.specs.Group.{sliceAt, sweep, among, contains, visited, passes, Choice, roomU, roomV, State, scanned, swept, fresh, group}
-use Rattle.rules.specs.Merger.{follows, rowWalk, rowsWalk, voxelMerger}
+use Rattle.rules.specs.Merger.{follows, walked, walkedRows, rowWalk, rowsWalk, voxelMerger}
 use Rattle.rules.specs.Greedy.{greedyGroup}
 use Rattle.rules.specs.Demand.{sumOf, Cover, Areas, Tests, points, visiblePoints, mostTests, DemandHolds, InSlice, Uniform, Consistent}
 use Rattle.rules.specs.Choices.{groupFrom, admit}
@@ -83,5 +83,5 @@ pub e2-meets-bound :
     let v : Field = field (at 4 4 3) (block (at 4 4 3) (placed 1 1 1 (O 7) ∷ [])) in
     let inner : Extent = wholeInterior (at 4 4 3) in
     (points inner ≡ 4) × (visiblePoints f v inner ≡ 1) × (greedyGroup inner v f .tests ≡ mostTests f v inner)
-unfolding greedyGroup group swept scanned passes visited contains among sweep sliceAt voxelMerger rowsWalk rowWalk follows visible stepped scan looped howMany field index size block class mergeValue shows uniform along put moved
+unfolding greedyGroup group swept scanned passes visited contains among sweep sliceAt voxelMerger rowsWalk rowWalk walkedRows walked follows visible stepped scan looped howMany field index size block class mergeValue shows uniform along put moved
 e2-meets-bound = (refl, refl, refl)

@@ -19,7 +19,7 @@ use Rattle.geometry.proofs.Frame.{moved-none, moved-moved}
 use Rattle.voxels.specs.Voxel.{mergeValue, uniform}
 use Rattle.voxels.specs.Shape.{Field}
 use Rattle.rules.specs.Group.{passes, contains, quadOf}
-use Rattle.rules.specs.Merger.{Walked, follows, rowWalk, rowsWalk, voxelMerger}
+use Rattle.rules.specs.Merger.{Walked, follows, walked, walkedRows, rowWalk, rowsWalk, voxelMerger}
 use Rattle.rules.specs.Demand.{Uniform, area}
 use Rattle.rules.specs.Choices.{Sound, Admissible}
 use Rattle.rules.proofs.Contains.{contains-true, reached}
@@ -33,24 +33,24 @@ module _ (f : OrientedBlockFace) (v : Field) (qs : List UnorientedQuad) (first :
     pub tests-most : w .tests ≤ most
 
   pub row-is : (p : Point) (most : ℕ) → Row p most (rowWalk f v qs first p most)
-  unfolding rowWalk
+  unfolding rowWalk walked
   row-is p zero = record { at-most = omega arith; each = λ i l. absurd (not-suc-le-zero l); one-more = omega arith; tests-most = omega arith }
   row-is p (suc most) =
       let rest = row-is (moved (uAxis f) 1 p) most in
       split (follows f v qs first p)
-      (λ t. rw (t, rowWalk) (record {
+      (λ t. rw (t, walked) (record {
         at-most = omega (arith, rest .at-most);
         each = elim [ zero ↦ λ l. rw moved-none t | suc i ↦ λ l. rw (← one-add i, ← moved-moved (uAxis f) 1 i p) (rest .each i (omega arith)) ];
         one-more = omega (arith, rest .one-more);
         tests-most = omega (arith, rest .tests-most);
       }))
-      (λ n. rw (n, rowWalk) (record { at-most = omega arith; each = λ i l. absurd (not-suc-le-zero l); one-more = omega arith; tests-most = omega arith }))
+      (λ n. rw (n, walked) (record { at-most = omega arith; each = λ i l. absurd (not-suc-le-zero l); one-more = omega arith; tests-most = omega arith }))
 
   -- It gets one where the first follows.
   pub row-some : (p : Point) (most : ℕ) → 1 ≤ most → follows f v qs first p ≡ true → 1 ≤ rowWalk f v qs first p most .got
-  unfolding rowWalk
+  unfolding rowWalk walked
   row-some p zero l t = absurd (not-suc-le-zero l)
-  row-some p (suc most) l t = rw (t, rowWalk) (omega arith)
+  row-some p (suc most) l t = rw (t, walked) (omega arith)
 
   -- Whole rows from p on, at most so many.
   pub record Rows (width : ℕ) (p : Point) (most : ℕ) (h : Walked) : Type 0 where
@@ -59,13 +59,13 @@ module _ (f : OrientedBlockFace) (v : Field) (qs : List UnorientedQuad) (first :
     pub row-more : h .tests ≤ width * h .got + width
 
   pub rows-are : (width : ℕ) (p : Point) (most : ℕ) → Rows width p most (rowsWalk f v qs first width p most)
-  unfolding rowsWalk
+  unfolding rowsWalk walkedRows
   rows-are width p zero = record { at-most = omega arith; each = λ i j l m. absurd (not-suc-le-zero m); row-more = omega arith }
   rows-are width p (suc most) =
       let row = row-is p width in
       let rest = rows-are width (moved (vAxis f) 1 p) most in
       split (eqb (rowWalk f v qs first p width .got) width)
-      (λ t. rw (t, rowsWalk) (record {
+      (λ t. rw (t, walkedRows) (record {
         at-most = omega (arith, rest .at-most);
         each = λ i. elim [
           | zero ↦ λ l m. rw moved-none (row .each i (omega (arith, eqb-true (rowWalk f v qs first p width .got) width t)))
@@ -73,7 +73,7 @@ module _ (f : OrientedBlockFace) (v : Field) (qs : List UnorientedQuad) (first :
         ];
         row-more = omega (arith, rest .row-more, row .tests-most);
       }))
-      (λ n. rw (n, rowsWalk) (record { at-most = omega arith; each = λ i j l m. absurd (not-suc-le-zero m); row-more = omega (arith, row .tests-most) }))
+      (λ n. rw (n, walkedRows) (record { at-most = omega arith; each = λ i j l m. absurd (not-suc-le-zero m); row-more = omega (arith, row .tests-most) }))
 
 module _ (f : OrientedBlockFace) (v : Field) (qs : List UnorientedQuad) (p : Point) (wide high : ℕ) where
   -- The first voxel of a walk follows itself.

@@ -28,29 +28,31 @@ pick width height tests = record { width = width; height = height; tests = tests
 unfoldable pub follows : OrientedBlockFace → Field → List UnorientedQuad → Point → Point → Bool
 follows f v qs first p = passes f v qs p && uniform (v first) (v p)
 
--- A row walk of at most so many voxels along +u from p on: how many pass before one fails (108 to 139). "stop at the first failure or at the slice's edge"
-unfoldable pub rowWalk : OrientedBlockFace → Field → List UnorientedQuad → Point → Point → ℕ → Walked
-rowWalk f v qs first p zero = record { got = 0; tests = 0 }
-rowWalk f v qs first p (suc most) =
-    elim (follows f v qs first p) [
+-- A walk: how many of a, next a, next (next a), .. pass before one fails, of at most so many, and the tests.
+unfoldable pub walked : {A : Type 0} → (A → Bool) → (A → A) → A → ℕ → Walked
+walked ok next a zero = record { got = 0; tests = 0 }
+walked ok next a (suc most) =
+    elim (ok a) [
       | false ↦ record { got = 0; tests = 1 }
-      | true ↦
-          let rest : Walked = rowWalk f v qs first (moved (uAxis f) 1 p) most in
-          record { got = 1 + rest .got; tests = 1 + rest .tests }
+      | true ↦ let rest : Walked = walked ok next (next a) most in record { got = 1 + rest .got; tests = 1 + rest .tests }
     ]
 
--- How many rows of the given width are whole, one after another along +v from p on, at most so many (83 to 101): "at most `width` voxels, by the same test; a whole row adds one,
--- a failure ends it. Stop at the edge."
-unfoldable pub rowsWalk : OrientedBlockFace → Field → List UnorientedQuad → Point → ℕ → Point → ℕ → Walked
-rowsWalk f v qs first width p zero = record { got = 0; tests = 0 }
-rowsWalk f v qs first width p (suc most) =
-    let w : Walked = rowWalk f v qs first p width in
-    elim (eqb (w .got) width) [
-      | false ↦ record { got = 0; tests = w .tests }
-      | true ↦
-          let rest : Walked = rowsWalk f v qs first width (moved (vAxis f) 1 p) most in
-          record { got = 1 + rest .got; tests = w .tests + rest .tests }
+-- A walk over rows: how many rows of a width are whole, one after another from a on, of at most so many, and the tests of their walks.
+unfoldable pub walkedRows : {A : Type 0} → (A → Walked) → ℕ → (A → A) → A → ℕ → Walked
+walkedRows row width next a zero = record { got = 0; tests = 0 }
+walkedRows row width next a (suc most) =
+    elim (eqb (row a .got) width) [
+      | false ↦ record { got = 0; tests = row a .tests }
+      | true ↦ let rest : Walked = walkedRows row width next (next a) most in record { got = 1 + rest .got; tests = row a .tests + rest .tests }
     ]
+
+-- The row walk of at most so many voxels along +u from p on (108 to 139): "stop at the first failure or at the slice's edge"
+unfoldable pub rowWalk : OrientedBlockFace → Field → List UnorientedQuad → Point → Point → ℕ → Walked
+rowWalk f v qs first p most = walked (follows f v qs first) (moved (uAxis f) 1) p most
+
+-- The walk of the rows along +v from p on, at most so many (83 to 101): "at most `width` voxels, by the same test; a whole row adds one, a failure ends it. Stop at the edge."
+unfoldable pub rowsWalk : OrientedBlockFace → Field → List UnorientedQuad → Point → ℕ → Point → ℕ → Walked
+rowsWalk f v qs first width p most = walkedRows (λ (q : Point). rowWalk f v qs first q width) width (moved (vAxis f) 1) p most
 
 -- The walk's rectangle (60 to 104): "Width: walk along +u from that voxel itself". "Height: starts at 1. Walk the next row along +v".
 unfoldable pub voxelMerger : OrientedBlockFace → Field → Choice
