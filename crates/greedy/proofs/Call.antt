@@ -35,7 +35,7 @@ use Rattle.rules.proofs.Counts.{howMany-append}
 use Rattle.rules.proofs.Demand.{greedy-cover, greedy-areas, greedy-tests, greedy-uniform}
 use Rattle.rules.proofs.Drawn.{greedy-drawn}
 use Rattle.greedy.specs.Greedy.{Listed, listed, quadNumbers, numbersOf, listedGroups, GreedyOutcome, outcome, greedyFrom, greedyQuads}
-use Rattle.greedy.specs.Call.{quadFrom, Meshed, TestsBounded, CallHolds, PartMeshed, NineHolds}
+use Rattle.greedy.specs.Call.{quadFrom, GroupMeshed, TestsBounded, CallHolds, PartMeshed, NineHolds}
 use Rattle.greedy.proofs.Outcome.{numbers-length}
 use Rattle.voxels.specs.declared.extent.Extent.{Extent}
 use Rattle.greedy.specs.declared.GreedyAnswer.{GreedyAnswer}
@@ -122,8 +122,8 @@ module _ (voxels : List ℕ) (shape min max : Point) (faces : List OrientedBlock
       let parts = greedy-passed voxels shape min max faces (length bytes) entered .0 in
       record {
         groups = rw (outcome-groups is)
-            (matched-each (Meshed v inner) (λ (f : OrientedBlockFace). greedyGroup inner v f .quads) faces
-            (each-up (GroupDrawn inner v) (λ (f : OrientedBlockFace). Meshed v inner f (greedyGroup inner v f .quads))
+            (matched-each (GroupMeshed v inner) (λ (f : OrientedBlockFace). greedyGroup inner v f .quads) faces
+            (each-up (GroupDrawn inner v) (λ (f : OrientedBlockFace). GroupMeshed v inner f (greedyGroup inner v f .quads))
             (λ f d. record { cover = greedy-cover f v inner; areas = greedy-areas f v inner; uniform = greedy-uniform f v inner; drawn = d }) faces
             (greedy-drawn shape (length voxels) min max (parts .bounds) v faces (parts .signs))));
         tests = tests-are entered ∙ zero-reported quadNumbers numbersOf groups was (answers entered) is _;

@@ -8,7 +8,7 @@ use borrow.Author.Tests.{eqb-true, eqb-false}
 use lib.Seq.{getD-set-same, getD-set-other, drop-set-lt}
 use Rattle.geometry.proofs.Refusals.{split}
 use Rattle.voxels.proofs.Loops.{steps-keep, steps-reach}
-use Rattle.greedy.specs.Inner.{markAt, markRowAt, markQuadAt}
+use Rattle.greedy.specs.Marks.{markAt, markRowAt, markQuadAt}
 
 -- ---- marking, by index
 

@@ -1,14 +1,10 @@
 -- From the faces' groups to the whole outcome: the tests summed, what laying the groups answers, what a refused entry leaves, and what an accepted one is known to be and leaves.
-use mathlib.Core.List.{List, [], _∷_, _++_}
+use mathlib.Core.List.{List, []}
 use mathlib.Core.Path.{_≡_, refl, sym, _∙_, ap}
-use Prim.Native.Nat.{ℕ, _+_, _≤_, _<_}
-use native.Mathlib.Nat.{add-zero, zero-add, add-assoc}
+use Prim.Native.Nat.{ℕ, _≤_, _<_}
 use native.Mathlib.Omega.{arith}
-use lib.IntN.{pos}
-use lib.ListN.{length, getD, take, replicate}
-use lib.Seq.{take-all}
+use lib.ListN.{length, replicate}
 use borrow.Author.Tests.{lt-ltb, le-ltb, ltb-false}
-use Rattle.geometry.specs.declared.axis.AxisPermutation.the-variants.{Xyz}
 use Rattle.geometry.specs.declared.face.OrientedBlockFace.{OrientedBlockFace}
 use Rattle.geometry.specs.Point.{Point}
 use Rattle.geometry.specs.Refusal.{Answer, accepted, refused, Check, answer}
@@ -21,12 +17,13 @@ use Rattle.voxels.proofs.Held.{bounds-held}
 use Rattle.voxels.proofs.Entered.{interior-is}
 use Rattle.listing.specs.Listing.{overwritten, capacity, tooMany, lay}
 use Rattle.listing.specs.Outcome.{meshAnswer, reported, listedAfter, MeshOutcome}
-use Rattle.listing.proofs.Groups.{take-next, laid-answer}
+use Rattle.listing.proofs.Groups.{laid-answer}
 use Rattle.listing.proofs.Outcome.{made-outcome}
-use Rattle.rules.specs.Greedy.{greedyGroup, greedyTests}
+use Rattle.rules.specs.Greedy.{greedyTests}
 use Rattle.greedy.specs.Greedy.{Listed, quadNumbers, numbersOf, listedGroups, GreedyOutcome, outcome, greedyFrom, greedyQuads}
-use Rattle.greedy.specs.Inner.{Accepted, MadeFaces}
-use Rattle.greedy.proofs.Faces.{cleared-again}
+use Rattle.greedy.specs.Scans.{Accepted, FacesMeshed}
+use Rattle.greedy.proofs.Cleared.{cleared-again}
+use Rattle.greedy.specs.declared.Meshed.{Meshed}
 use Rattle.listing.specs.declared.MeshAnswer.{MeshAnswer}
 use Rattle.voxels.specs.declared.extent.Extent.{Extent}
 use Rattle.voxels.specs.declared.bounds.Entry.{Entry}
@@ -35,52 +32,34 @@ use Rattle.voxels.specs.declared.bounds.Entry.{Entry}
 pub numbers-length : (l : Listed) → length (numbersOf l) ≡ quadNumbers
 numbers-length l = refl
 
--- What stands past the end of a list of faces.
-abbrev pub noFace : OrientedBlockFace
-noFace = record { «n_sign» = pos 0; permutation = Xyz }
-
--- ---- the tests
-
-module _ (inner : Extent) (v : Field) where
-  tests-more : (l : List OrientedBlockFace) (f : OrientedBlockFace) → greedyTests inner v (l ++ (f ∷ [])) ≡ greedyTests inner v l + greedyGroup inner v f .tests
-  unfolding greedyTests
-  tests-more [] f = add-zero (greedyGroup inner v f .tests) ∙ sym (zero-add (greedyGroup inner v f .tests))
-  tests-more (g ∷ l) f = rw (tests-more l f) (sym (add-assoc (greedyGroup inner v g .tests) (greedyTests inner v l) (greedyGroup inner v f .tests)))
-
-  module _ (fs : List OrientedBlockFace) where
-    -- After one more face its tests are added,
-    pub tests-next : (d : OrientedBlockFace) (k : ℕ) {t t′ : ℕ} → k < length fs → t ≡ greedyTests inner v (take k fs) → t′ ≡ t + greedyGroup inner v (getD fs k d) .tests → t′ ≡ greedyTests inner v (take (k + 1) fs)
-    tests-next d k h before now = rw (take-next fs k d h, tests-more (take k fs) (getD fs k d), now, before)
-
-    -- and after all of them the sum is whole.
-    pub tests-done : (k : ℕ) {t : ℕ} → length fs ≤ k → t ≡ greedyTests inner v (take k fs) → t ≡ greedyTests inner v fs
-    tests-done k h e = rw (take-all k fs h) at e
-
 -- ---- the answer
 
-module _ (size : ℕ) (inner : Extent) (v : Field) (faces : List OrientedBlockFace) {wasMarks was marks out : List ℕ} {count tests : ℕ} {counts : List ℕ}
-    (made : MadeFaces size (listedGroups inner v faces) (greedyTests inner v faces) wasMarks was marks out count tests counts) {room : ℕ} (is : room ≡ capacity quadNumbers (length was))
-    {mesh : MeshAnswer} (answered : mesh ≡ meshAnswer (answer (tooMany count room) counts)) {bytes : List ℕ} (cleared : bytes ≡ overwritten (replicate size 0) marks) where
+module _ {vs : List ℕ} {shape : Point} {inner : Extent} {faces : List OrientedBlockFace} {wasMarks was marks out : List ℕ} {r : Meshed} (made : FacesMeshed vs shape inner faces wasMarks was marks out r)
+    {n : ℕ} (all : n ≡ size shape) {room : ℕ} (is : room ≡ capacity quadNumbers (length was))
+    {mesh : MeshAnswer} (answered : mesh ≡ meshAnswer (answer (tooMany (r .listed) room) (r .counts))) {bytes : List ℕ} (cleared : bytes ≡ overwritten (replicate n 0) marks) where
+  abbrev v : Field
+  v = field shape vs
+
   -- What the groups leave is what meshing leaves, once the tests are those that are reported.
   made-leaves : {t : ℕ} → t ≡ reported (lay quadNumbers numbersOf (listedGroups inner v faces) was .answer) (greedyTests inner v faces)
-      → outcome (record { mesh = mesh; tests = t }) bytes out ≡ greedyFrom (accepted tt) size inner v faces wasMarks was
+      → outcome (record { mesh = mesh; tests = t }) bytes out ≡ greedyFrom (accepted tt) n inner v faces wasMarks was
   unfolding greedyFrom listedAfter
   made-leaves e =
       let left = made-outcome quadNumbers numbersOf (omega arith) numbers-length (made .made) is answered in
-      rw (e, cleared, cleared-again size marks wasMarks (made .rest))
-      (ap (λ (o : MeshOutcome). record { mesh = o; tests = reported (lay quadNumbers numbersOf (listedGroups inner v faces) was .answer) (greedyTests inner v faces); visitedBytes = overwritten (replicate size 0) wasMarks }) left)
+      rw (e, cleared, cleared-again n marks wasMarks (rw (← all) at (made .rest)))
+      (ap (λ (o : MeshOutcome). record { mesh = o; tests = reported (lay quadNumbers numbersOf (listedGroups inner v faces) was .answer) (greedyTests inner v faces); visitedBytes = overwritten (replicate n 0) wasMarks }) left)
 
-  answer-is : answer (tooMany count room) counts ≡ lay quadNumbers numbersOf (listedGroups inner v faces) was .answer
+  answer-is : answer (tooMany (r .listed) room) (r .counts) ≡ lay quadNumbers numbersOf (listedGroups inner v faces) was .answer
   answer-is = laid-answer quadNumbers numbersOf (omega arith) numbers-length (made .made) is
 
   -- More than fit are refused, and no tests are reported,
-  pub many-left : room < count → outcome (record { mesh = mesh; tests = 0 }) bytes out ≡ greedyFrom (accepted tt) size inner v faces wasMarks was
-  many-left h = made-leaves (ap (λ (a : Answer (List ℕ)). reported a (greedyTests inner v faces)) (sym (applies _ _ counts (lt-ltb room count h)) ∙ answer-is))
+  pub many-left : room < r .listed → outcome (record { mesh = mesh; tests = 0 }) bytes out ≡ greedyFrom (accepted tt) n inner v faces wasMarks was
+  many-left h = made-leaves (ap (λ (a : Answer (List ℕ)). reported a (greedyTests inner v faces)) (sym (applies _ _ (r .counts) (lt-ltb room (r .listed) h)) ∙ answer-is))
 
   -- and where all fit they are.
-  pub all-left : count ≤ room → outcome (record { mesh = mesh; tests = tests }) bytes out ≡ greedyFrom (accepted tt) size inner v faces wasMarks was
+  pub all-left : r .listed ≤ room → outcome (record { mesh = mesh; tests = r .tests }) bytes out ≡ greedyFrom (accepted tt) n inner v faces wasMarks was
   unfolding answer
-  all-left h = made-leaves (made .tests-are ∙ ap (λ (a : Answer (List ℕ)). reported a (greedyTests inner v faces)) (sym (passes _ [] counts (le-ltb room count h)) ∙ answer-is))
+  all-left h = made-leaves (made .tests-are ∙ ap (λ (a : Answer (List ℕ)). reported a (greedyTests inner v faces)) (sym (passes _ [] (r .counts) (le-ltb room (r .listed) h)) ∙ answer-is))
 
 -- ---- the entry
 

@@ -8,9 +8,12 @@ use native.Mathlib.Nat.{add-zero, zero-mul, suc-mul, add-mul, eq-or-lt-of-le}
 use native.Mathlib.Omega.{arith}
 use Rattle.geometry.specs.Point.{Point}
 use Rattle.voxels.proofs.Loops.{Underway, underway-start, underway-on}
+use Rattle.greedy.specs.Walks.{needsAt, WalkReady, Idle}
+use Rattle.greedy.specs.Marks.{Stepping}
+use Rattle.greedy.specs.Scans.{Scanned, scannedAt, SpotReady, voxelTests}
+use Rattle.greedy.proofs.Rectangles.{spot-touches}
+use Rattle.greedy.proofs.Scanning.{scanned-none, Scanning, scan-on}
 use Rattle.greedy.specs.declared.face_scan.FaceScan.{FaceScan}
-use Rattle.greedy.specs.Inner.{needsAt, RowReady, Idle, Stepping, Scanned, scannedAt, SpotReady, voxelTests}
-use Rattle.greedy.proofs.Loops.{spot-touches, scanned-none, Scanning, scan-on}
 
 -- A loop that passes them, k so far: it stands at the index j.
 pub record Passing (vs marks : List ℕ) (off i d most k j : ℕ) : Type 0 where
@@ -41,7 +44,7 @@ module _ {vs marks : List ℕ} {off i d most : ℕ} where
     pass-done h = record { within = l .at .within; passed = l .passed; stopped = λ less. absurd (omega arith) }
 
 -- What is left of a row to scan can be tested, voxel by voxel.
-pub rest-ready : {c : FaceScan} {spot : ℕ → Point} {vn mn d a i n k j : ℕ} → Stepping (λ (x i : ℕ). SpotReady vn mn c (spot x) i) d a i n → Underway d i n k j → k < n → RowReady vn mn (c .«visibility_offset» .0) j d (n - k)
+pub rest-ready : {c : FaceScan} {spot : ℕ → Point} {vn mn d a i n k j : ℕ} → Stepping (λ (x i : ℕ). SpotReady vn mn c (spot x) i) d a i n → Underway d i n k j → k < n → WalkReady vn mn (c .«visibility_offset» .0) j d (n - k)
 rest-ready {c = c} {d = d} {i = i} {n = n} {k = k} {j = j} row l h =
     let left : k + (n - k) ≡ n = omega arith in
     let end : i + (k + (n - k)) * d ≡ i + n * d = rw left in
@@ -49,15 +52,15 @@ rest-ready {c = c} {d = d} {i = i} {n = n} {k = k} {j = j} row l h =
     record { each = λ m less. rw (place m) at (spot-touches c _ _ (row .each (k + m) (omega arith))); last = omega (arith, row .last, place (n - k)) }
 
 -- A scan that passes so many of them has made as many tests more, and nothing else.
-pub scan-idle : (vs : List ℕ) (c : FaceScan) (spot : ℕ → Point) {marks₀ out₀ marks out : List ℕ} {d a i n n₀ t₀ listed tests k j : ℕ} (m : ℕ)
-    → Scanning (λ (s : Scanned) (x j : ℕ). scannedAt vs c s (spot x) j) voxelTests d a i n marks₀ out₀ n₀ t₀ marks out listed tests k j
+pub scan-idle : (vs : List ℕ) (c : FaceScan) (spot : ℕ → Point) {was now : Scanned} {d a i n k j : ℕ} (m : ℕ)
+    → Scanning (λ (s : Scanned) (x j : ℕ). scannedAt vs c s (spot x) j) voxelTests d a i n was now k j
     → k + m ≤ n
-    → ((h : ℕ) → h < m → needsAt vs marks (c .«visibility_offset» .0) (j + h * d) ≡ false)
-    → Scanning (λ (s : Scanned) (x j : ℕ). scannedAt vs c s (spot x) j) voxelTests d a i n marks₀ out₀ n₀ t₀ marks out listed (tests + m) (k + m) (j + m * d)
-scan-idle vs c spot {d = d} zero l fits idle = rw (zero-mul d, add-zero, add-zero, add-zero) l
-scan-idle vs c spot {d = d} {listed = listed} {tests = tests} {k = k} {j = j} (suc m) l fits idle =
+    → ((h : ℕ) → h < m → needsAt vs (now .marks) (c .«visibility_offset» .0) (j + h * d) ≡ false)
+    → Scanning (λ (s : Scanned) (x j : ℕ). scannedAt vs c s (spot x) j) voxelTests d a i n was (record { marks = now .marks; output = now .output; tests = now .tests + m }) (k + m) (j + m * d)
+scan-idle vs c spot {now = now} {d = d} zero l fits idle = rw (zero-mul d, add-zero, add-zero, add-zero) l
+scan-idle vs c spot {now = now} {d = d} {k = k} {j = j} (suc m) l fits idle =
     let on = scan-idle vs c spot m l (omega arith) (λ h less. idle h (omega arith)) in
-    let is-tests : tests + m + 1 ≡ tests + suc m = omega arith in
+    let is-tests : now .tests + m + 1 ≡ now .tests + suc m = omega arith in
     let is-k : k + m + 1 ≡ k + suc m = omega arith in
     let is-j : j + m * d + d ≡ j + suc m * d = omega (arith, suc-mul m d) in
-    rw (is-tests, is-k, is-j) at (scan-on on (omega arith) (scanned-none _ _ _ _ _ _ _ _ (idle m (omega arith)) (on .few)) refl refl)
+    rw (is-tests, is-k, is-j) at (scan-on on (omega arith) (scanned-none vs c _ _ _ (on .few) (idle m (omega arith))) refl refl)

@@ -9,12 +9,11 @@ use Rattle.geometry.specs.declared.axis.Axis.{Axis}
 use Rattle.geometry.specs.declared.axis.Axis.the-variants.{X, Y, Z}
 use Rattle.geometry.specs.declared.face.OrientedBlockFace.{OrientedBlockFace}
 use Rattle.geometry.specs.Point.{Point, at, along, put}
-use Rattle.geometry.specs.Axes.{positive, nAxis, uAxis, vAxis}
+use Rattle.geometry.specs.Axes.{nAxis, vAxis}
 use Rattle.geometry.proofs.Refusals.{split}
 use Rattle.voxels.specs.Shape.{size, index, stride, Field, field}
 use Rattle.voxels.specs.Extent.{Inside, upTo, scan}
 use Rattle.voxels.specs.Loop.{looped, stepBy, every, Stand, stand, onBy, andNext, steps}
-use Rattle.voxels.specs.Visible.{visibilityOffset}
 use Rattle.voxels.specs.Inner.{Entered}
 use Rattle.voxels.proofs.Places.{index-at, index-below}
 use Rattle.voxels.proofs.Loops.{onward-by, onward-both, loops-agree, loops-same}
@@ -29,8 +28,10 @@ use Rattle.rules.specs.Greedy.{greedyGroup}
 use Rattle.rules.specs.Choices.{groupFrom}
 use Rattle.rules.proofs.Spread.{spread, spread-index, spread-inside}
 use Rattle.greedy.specs.Greedy.{listed, quadNumbers, numbersOf}
-use Rattle.greedy.specs.Inner.{quadAt, faster, slower, spot, spanOf, faceScan, Scanned, laidBy, laidAt, scannedAt, rowAlong, sliceAlong, slicesAlong}
-use Rattle.greedy.proofs.Loops.{quad-wide, quad-high}
+use Rattle.greedy.specs.Walks.{quadAt}
+use Rattle.greedy.specs.Spans.{faster, slower, spot, spanOf, faceScan, uStride, vStride, sideOffset}
+use Rattle.greedy.specs.Scans.{Scanned, laidBy, laidAt, scannedAt, rowAlong, sliceAlong, slicesAlong}
+use Rattle.greedy.proofs.Rectangles.{quad-wide, quad-high}
 use Rattle.greedy.proofs.Marks.{quad-length, quad-rest}
 use Rattle.greedy.proofs.Told.{Tells, tells-more, needs-same, quad-same}
 use Rattle.voxels.specs.declared.extent.Extent.{Extent}
@@ -92,15 +93,6 @@ module _ (lent : ℕ) (shape : Point) (inner : Extent) (entered : Entered lent s
   abbrev v : Field
   v = field shape vs
 
-  abbrev du : ℕ
-  du = stride shape (uAxis f)
-
-  abbrev dv : ℕ
-  dv = stride shape (vAxis f)
-
-  abbrev offset : ℕ
-  offset = visibilityOffset (positive (f .«n_sign»)) (stride shape (nAxis f))
-
   abbrev c : FaceScan
   c = faceScan shape inner f
 
@@ -115,7 +107,7 @@ module _ (lent : ℕ) (shape : Point) (inner : Extent) (entered : Entered lent s
   module _ (s : Scanned) (t : State) (same : Same s t) (p : Point) (h : Inside inner p) where
     -- A rectangle within the room that is laid by indices is laid by the rule, whatever picked it.
     module _ (q : Pick) (wide : q .width ≤ roomU f inner p) (high : q .height ≤ roomV f inner p) where
-      within : (x y : ℕ) → x < q .width → y < q .height → index shape p + y * dv + x * du < size shape
+      within : (x y : ℕ) → x < q .width → y < q .height → index shape p + y * (vStride shape f) + x * (uStride shape f) < size shape
       within x y lx ly =
           rw (sym (spread-index f shape x y p))
           (index-below shape (spread f x y p) (inner-in-shape lent shape inner entered _ (spread-inside f inner x y p h (omega (arith, wide)) (omega (arith, high)))))
@@ -124,8 +116,8 @@ module _ (lent : ℕ) (shape : Point) (inner : Extent) (entered : Entered lent s
       unfolding laidBy faceScan pushedAll
       laid-by = record {
         tells = tells-more lent shape inner entered f (t .quads) (s .marks) (quadOf p q) (same .tells) (same .long) h wide high;
-        long = rw (quad-length du (q .width) dv (q .height) (s .marks) (index shape p)) (same .long);
-        rest = quad-rest du (q .width) dv (q .height) (size shape) (s .marks) (index shape p) within ∙ same .rest;
+        long = rw (quad-length (uStride shape f) (q .width) (vStride shape f) (q .height) (s .marks) (index shape p)) (same .long);
+        rest = quad-rest (uStride shape f) (q .width) (vStride shape f) (q .height) (size shape) (s .marks) (index shape p) within ∙ same .rest;
         lists =
             ap (λ (o : Output). pushed quadNumbers numbersOf o (listed (quadOf p q))) (same .lists)
             ∙ sym (pushed-append quadNumbers numbersOf before (map listed (t .quads)) (listed (quadOf p q) ∷ []))
@@ -137,7 +129,7 @@ module _ (lent : ℕ) (shape : Point) (inner : Extent) (entered : Entered lent s
     abbrev picked : Pick
     picked = voxelMerger f v (t .quads) p (roomU f inner p) (roomV f inner p)
 
-    pick-same : quadAt vs (s .marks) offset du dv (roomU f inner p) (roomV f inner p) (index shape p) ≡ picked
+    pick-same : quadAt vs (s .marks) (sideOffset shape f) (uStride shape f) (vStride shape f) (roomU f inner p) (roomV f inner p) (index shape p) ≡ picked
     pick-same = quad-same lent shape inner entered f vs (t .quads) (s .marks) (same .tells) p h
 
     laid-same : Same (laidAt vs c s p (index shape p)) (record { quads = t .quads ++ (quadOf p picked ∷ []); tests = t .tests + 1 + picked .tests })
@@ -146,8 +138,8 @@ module _ (lent : ℕ) (shape : Point) (inner : Extent) (entered : Entered lent s
         let hv = h (vAxis f) in
         rw pick-same
         (laid-by picked
-        (quad-wide vs (s .marks) offset du dv (roomU f inner p) (roomV f inner p) (index shape p) (sym pick-same))
-        (quad-high vs (s .marks) offset du dv (roomU f inner p) (roomV f inner p) (index shape p) (sym pick-same) (omega arith)))
+        (quad-wide vs (s .marks) (sideOffset shape f) (uStride shape f) (vStride shape f) (roomU f inner p) (roomV f inner p) (index shape p) (sym pick-same))
+        (quad-high vs (s .marks) (sideOffset shape f) (uStride shape f) (vStride shape f) (roomU f inner p) (roomV f inner p) (index shape p) (sym pick-same) (omega arith)))
 
     -- A voxel that is scanned by its index is scanned by the rule.
     pub scanned-same : Same (scannedAt vs c s p (index shape p)) (scanned f v inner (voxelMerger f v) t p)

@@ -27,7 +27,7 @@ quadFrom out = record { minimum = at (getD out 0 0) (getD out 1 0) (getD out 2 0
 
 -- What the group of a face has: "every interior voxel whose face is visible lies in exactly one quad of that face's group, no other voxel lies in any of them, and their areas sum to the number of
 -- visible faces"; the voxels of each quad are uniform; and every quad is within check 12's limits on its face, so that all that is asked of it for drawing is given.
-pub record Meshed (v : Field) (inner : Extent) (f : OrientedBlockFace) (quads : List UnorientedQuad) : Type 0 where
+pub record GroupMeshed (v : Field) (inner : Extent) (f : OrientedBlockFace) (quads : List UnorientedQuad) : Type 0 where
   pub cover : Cover f v inner quads
   pub areas : Areas f v inner quads
   pub uniform : Each (Uniform f v) quads
@@ -40,7 +40,7 @@ TestsBounded v inner f = Tests f v inner (greedyGroup inner v f .tests)
 -- Of a block, a box, six faces, the answer and the output at exit.
 pub record CallHolds (voxels : List ℕ) (shape min max : Point) (faces : List OrientedBlockFace) (answer : GreedyAnswer) (out : List ℕ) : Type 0 where
   -- The groups that the six counts cut out of the output are one a face, and each is meshed.
-  pub groups : Matched (Meshed (field shape voxels) (interior min max)) faces (groupsIn quadNumbers quadFrom (answer .mesh .counts) out)
+  pub groups : Matched (GroupMeshed (field shape voxels) (interior min max)) faces (groupsIn quadNumbers quadFrom (answer .mesh .counts) out)
   -- The tests are those that the rule makes, summed over the six faces,
   pub tests : answer .tests ≡ greedyTests (interior min max) (field shape voxels) faces
   -- and for each face they are within their bound.

@@ -5,5 +5,8 @@ pub mod Greedy
 pub mod Call
 -- Document 01's examples as calls.
 pub mod Calls
--- For private contracts alone:
-pub mod Inner
+-- For private contracts alone, file by file as the source:
+pub mod Walks
+pub mod Marks
+pub mod Spans
+pub mod Scans

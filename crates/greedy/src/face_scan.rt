@@ -1,7 +1,7 @@
 // What the scan of a face computes once, before it reads a voxel: the first lines of the Rust's
 // `greedy_quads_for_face`, with the order in which a slice is scanned.
 ghost use mathlib.Core.Path.{_≡_};
-ghost use Rattle.greedy.specs.Inner as rule;
+ghost use Rattle.greedy.specs.Spans as rule;
 use geometry::axis::Axes;
 use geometry::axis::Axis;
 use geometry::face::OrientedBlockFace;

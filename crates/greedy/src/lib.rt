@@ -9,13 +9,12 @@ ghost use mathlib.Core.Path.{_≡_};
 ghost use Prim.Native.Nat.{_+_, _*_, _<_, _≤_};
 ghost use lib.ListN.{length};
 ghost use Rattle.geometry.specs.Refusal.{accepted};
-ghost use Rattle.voxels.specs.Shape as shape;
 ghost use Rattle.voxels.specs.Inner.{mostVoxels};
-ghost use Rattle.listing.specs.Listing as laid;
 ghost use Rattle.listing.specs.Pushed.{output, pushed};
-ghost use Rattle.rules.specs.Greedy.{greedyGroup, greedyTests};
-ghost use Rattle.greedy.specs.Greedy.{quadNumbers, numbersOf, listed, listedGroup, listedGroups, outcome, greedyFrom, greedyQuads};
-ghost use Rattle.greedy.specs.Inner.{Touches, needsAt, RowReady, Idle, SpotReady, RowScan, SliceScan, SlicesScan, voxelTests, ampleTests, Made, MadeFace, MadeFaces, Accepted, progress, laidAt, rowAlong, sliceAlong, slicesAlong};
+ghost use Rattle.greedy.specs.Greedy.{quadNumbers, numbersOf, listed, outcome, greedyFrom, greedyQuads};
+ghost use Rattle.greedy.specs.Walks.{Touches, needsAt, WalkReady, Idle};
+ghost use Rattle.greedy.specs.Scans.{progress, SpotReady, RowScan, SliceScan, SlicesScan, voxelTests, rowTests, sliceTests, faceTests, ampleTests, RoomFor, Accepted, QuadLaid, RowScanned, SliceScanned, SlicesScanned, FaceMeshed, FacesMeshed};
+ghost use Rattle.voxels.specs.Shape as shape;
 
 mod face_scan;
 mod merge_strategy;
@@ -74,15 +73,8 @@ fn face_needs_mesh(
 }
 
 // Lists a quad: its minimum's three numbers, its width and its height.
-fn push(
-    out: &mut [u32],
-    capacity: usize,
-    quads: usize,
-    minimum: UVec3,
-    width: u32,
-    height: u32,
-) -> usize
-    requires { ⌜ (capacity ≡ laid.capacity quadNumbers (length (now out))) × (quads ≤ ampleTests) ⌝ }
+fn push(out: &mut [u32], quads: usize, minimum: UVec3, width: u32, height: u32) -> usize
+    requires { ⌜ quads ≤ ampleTests ⌝ }
     ensures { λ r. ⌜ output (now (out .exit)) r ≡ pushed quadNumbers numbersOf (output (now (out .entry)) quads) (listed (record { minimum = minimum; width = width; height = height })) ⌝ }
 {
     let item = [minimum.x, minimum.y, minimum.z, width, height];
@@ -95,15 +87,14 @@ fn lay_quad(
     voxels: &[u16],
     visited: &mut [u8],
     out: &mut [u32],
-    capacity: usize,
     before: Progress,
     scan: FaceScan,
     minimum: UVec3,
     min_index: VoxelIndex,
 ) -> Progress
-    requires { ⌜ (capacity ≡ laid.capacity quadNumbers (length (now out))) × (before .listed ≤ before .tests) × (before .tests + voxelTests ≤ ampleTests) ⌝ }
+    requires { ⌜ RoomFor voxelTests (progress (now visited) (now out) before) ⌝ }
     requires { ⌜ SpotReady (length (now voxels)) (length (now visited)) scan minimum («min_index» .0) ⌝ }
-    ensures { λ r. ⌜ Made (laidAt (now (voxels .entry)) scan (progress (now (visited .entry)) (now (out .entry)) (before .listed) (before .tests)) minimum («min_index» .0)) (before .tests + voxelTests) (now (visited .exit)) (now (out .exit)) (r .listed) (r .tests) ⌝ }
+    ensures { λ r. ⌜ QuadLaid (now (voxels .entry)) scan minimum («min_index» .0) (progress (now (visited .entry)) (now (out .entry)) before) (progress (now (visited .exit)) (now (out .exit)) r) ⌝ }
 {
     let axes = scan.axes;
     let u = axes.u;
@@ -126,7 +117,7 @@ fn lay_quad(
     let width = quad.width;
     let height = quad.height;
     visited::mark_quad(visited, min_index, u_stride, width, v_stride, height);
-    let listed = push(out, capacity, before.listed, minimum, width, height);
+    let listed = push(out, before.listed, minimum, width, height);
     let tests = before.tests + 1 + quad.tests;
     Progress { listed, tests }
 }
@@ -140,7 +131,7 @@ fn idle(
     delta: Stride,
     most: u32,
 ) -> u32
-    requires { ⌜ RowReady (length (now voxels)) (length (now visited)) («visibility_offset» .0) (start .0) (delta .0) most ⌝ }
+    requires { ⌜ WalkReady (length (now voxels)) (length (now visited)) («visibility_offset» .0) (start .0) (delta .0) most ⌝ }
     ensures { λ r. ⌜ Idle (now (voxels .entry)) (now (visited .entry)) («visibility_offset» .0) (start .0) (delta .0) most r ⌝ }
 {
     let step = delta.0;
@@ -161,16 +152,15 @@ fn scan_row(
     voxels: &[u16],
     visited: &mut [u8],
     out: &mut [u32],
-    capacity: usize,
     before: Progress,
     scan: FaceScan,
     slice: u32,
     row: u32,
     start: VoxelIndex,
 ) -> Progress
-    requires { ⌜ (capacity ≡ laid.capacity quadNumbers (length (now out))) × (before .listed ≤ before .tests) × (before .tests + scan .row .count * voxelTests ≤ ampleTests) ⌝ }
+    requires { ⌜ RoomFor (rowTests scan) (progress (now visited) (now out) before) ⌝ }
     requires { ⌜ RowScan (length (now voxels)) (length (now visited)) scan slice row (start .0) ⌝ }
-    ensures { λ r. ⌜ Made (rowAlong (now (voxels .entry)) scan slice (progress (now (visited .entry)) (now (out .entry)) (before .listed) (before .tests)) row (start .0)) (before .tests + scan .row .count * voxelTests) (now (visited .exit)) (now (out .exit)) (r .listed) (r .tests) ⌝ }
+    ensures { λ r. ⌜ RowScanned (now (voxels .entry)) scan slice row (start .0) (progress (now (visited .entry)) (now (out .entry)) before) (progress (now (visited .exit)) (now (out .exit)) r) ⌝ }
 {
     let span = scan.row;
     let step = span.stride.0;
@@ -198,18 +188,10 @@ fn scan_row(
         let axes = scan.axes;
         let n = axes.n;
         let minimum = face_scan::spot(n, slice, row, from + k);
-        let after = lay_quad(
-            voxels,
-            visited,
-            out,
-            capacity,
-            Progress { listed, tests },
-            scan,
-            minimum,
-            VoxelIndex(i),
-        );
-        listed = after.listed;
-        tests = after.tests;
+        let reached = Progress { listed, tests };
+        let laid = lay_quad(voxels, visited, out, reached, scan, minimum, VoxelIndex(i));
+        listed = laid.listed;
+        tests = laid.tests;
         k += 1;
         i += step;
     }
@@ -221,42 +203,37 @@ fn scan_slice(
     voxels: &[u16],
     visited: &mut [u8],
     out: &mut [u32],
-    capacity: usize,
     before: Progress,
     scan: FaceScan,
     slice: u32,
     start: VoxelIndex,
 ) -> Progress
-    requires { ⌜ (capacity ≡ laid.capacity quadNumbers (length (now out))) × (before .listed ≤ before .tests) × (before .tests + scan .rows .count * (scan .row .count * voxelTests) ≤ ampleTests) ⌝ }
+    requires { ⌜ RoomFor (sliceTests scan) (progress (now visited) (now out) before) ⌝ }
     requires { ⌜ SliceScan (length (now voxels)) (length (now visited)) scan slice (start .0) ⌝ }
-    ensures { λ r. ⌜ Made (sliceAlong (now (voxels .entry)) scan (progress (now (visited .entry)) (now (out .entry)) (before .listed) (before .tests)) slice (start .0)) (before .tests + scan .rows .count * (scan .row .count * voxelTests)) (now (visited .exit)) (now (out .exit)) (r .listed) (r .tests) ⌝ }
+    ensures { λ r. ⌜ SliceScanned (now (voxels .entry)) scan slice (start .0) (progress (now (visited .entry)) (now (out .entry)) before) (progress (now (visited .exit)) (now (out .exit)) r) ⌝ }
 {
     let span = scan.rows;
     let step = span.stride.0;
     let count = span.count;
     let from = span.start;
-    let mut listed = before.listed;
-    let mut tests = before.tests;
+    let mut reached = before;
     let mut k: u32 = 0;
     let mut i = start.0;
     while k < count {
-        let after = scan_row(
+        reached = scan_row(
             voxels,
             visited,
             out,
-            capacity,
-            Progress { listed, tests },
+            reached,
             scan,
             slice,
             from + k,
             VoxelIndex(i),
         );
-        listed = after.listed;
-        tests = after.tests;
         k += 1;
         i += step;
     }
-    Progress { listed, tests }
+    reached
 }
 
 // Scans all slices, low to high.
@@ -264,63 +241,49 @@ fn scan_slices(
     voxels: &[u16],
     visited: &mut [u8],
     out: &mut [u32],
-    capacity: usize,
     before: Progress,
     scan: FaceScan,
     start: VoxelIndex,
 ) -> Progress
-    requires { ⌜ (capacity ≡ laid.capacity quadNumbers (length (now out))) × (before .listed ≤ before .tests) × (before .tests + scan .slices .count * (scan .rows .count * (scan .row .count * voxelTests)) ≤ ampleTests) ⌝ }
+    requires { ⌜ RoomFor (faceTests scan) (progress (now visited) (now out) before) ⌝ }
     requires { ⌜ SlicesScan (length (now voxels)) (length (now visited)) scan (start .0) ⌝ }
-    ensures { λ r. ⌜ Made (slicesAlong (now (voxels .entry)) scan (progress (now (visited .entry)) (now (out .entry)) (before .listed) (before .tests)) (start .0)) (before .tests + scan .slices .count * (scan .rows .count * (scan .row .count * voxelTests))) (now (visited .exit)) (now (out .exit)) (r .listed) (r .tests) ⌝ }
+    ensures { λ r. ⌜ SlicesScanned (now (voxels .entry)) scan (start .0) (progress (now (visited .entry)) (now (out .entry)) before) (progress (now (visited .exit)) (now (out .exit)) r) ⌝ }
 {
     let span = scan.slices;
     let step = span.stride.0;
     let count = span.count;
     let from = span.start;
-    let mut listed = before.listed;
-    let mut tests = before.tests;
+    let mut reached = before;
     let mut k: u32 = 0;
     let mut i = start.0;
     while k < count {
-        let after = scan_slice(
-            voxels,
-            visited,
-            out,
-            capacity,
-            Progress { listed, tests },
-            scan,
-            from + k,
-            VoxelIndex(i),
-        );
-        listed = after.listed;
-        tests = after.tests;
+        reached = scan_slice(voxels, visited, out, reached, scan, from + k, VoxelIndex(i));
         k += 1;
         i += step;
     }
-    Progress { listed, tests }
+    reached
 }
 
-// The group of a face: clears the marks, and scans the interior.
+// The group of a face: clears the marks, one a voxel of the shape, and scans the interior.
 fn greedy_quads_for_face(
     voxels: &[u16],
     visited: &mut [u8],
     out: &mut [u32],
-    capacity: usize,
     before: Progress,
-    marks: usize,
+    size: usize,
     voxels_shape: UVec3,
     interior: Extent,
     face: OrientedBlockFace,
 ) -> Progress
-    requires { ⌜ (capacity ≡ laid.capacity quadNumbers (length (now out))) × (before .listed ≤ before .tests) × (before .tests ≤ 6 * mostVoxels * voxelTests) × (marks ≡ shape.size «voxels_shape») ⌝ }
+    requires { ⌜ (size ≡ shape.size «voxels_shape») × RoomFor (mostVoxels * voxelTests) (progress (now visited) (now out) before) ⌝ }
     requires { ⌜ Accepted (length (now voxels)) (length (now visited)) «voxels_shape» interior ⌝ }
-    ensures { λ r. ⌜ MadeFace marks (listedGroup interior (shape.field «voxels_shape» (now (voxels .entry))) face) (greedyGroup interior (shape.field «voxels_shape» (now (voxels .entry))) face .tests) (now (visited .entry)) (now (out .entry)) (before .listed) (before .tests) (now (visited .exit)) (now (out .exit)) (r .listed) (r .tests) ⌝ }
+    ensures { λ r. ⌜ FaceMeshed (now (voxels .entry)) «voxels_shape» interior face (progress (now (visited .entry)) (now (out .entry)) before) (progress (now (visited .exit)) (now (out .exit)) r) ⌝ }
 {
-    visited::clear(visited, marks);
+    visited::clear(visited, size);
     let scan = FaceScan::new(voxels_shape, interior, face);
     let minimum = interior.minimum;
     let start = VoxelIndex::linearize(voxels_shape, minimum);
-    scan_slices(voxels, visited, out, capacity, before, scan, start)
+    scan_slices(voxels, visited, out, before, scan, start)
 }
 
 // What all faces listed and tested, and how many quads each listed.
@@ -335,15 +298,14 @@ fn mesh_faces(
     voxels: &[u16],
     visited: &mut [u8],
     out: &mut [u32],
-    capacity: usize,
     size: usize,
     voxels_shape: UVec3,
     interior: Extent,
     faces: [OrientedBlockFace; 6],
 ) -> Meshed
-    requires { ⌜ (capacity ≡ laid.capacity quadNumbers (length (now out))) × (size ≡ shape.size «voxels_shape») ⌝ }
+    requires { ⌜ size ≡ shape.size «voxels_shape» ⌝ }
     requires { ⌜ Accepted (length (now voxels)) (length (now visited)) «voxels_shape» interior ⌝ }
-    ensures { λ r. ⌜ MadeFaces size (listedGroups interior (shape.field «voxels_shape» (now (voxels .entry))) faces) (greedyTests interior (shape.field «voxels_shape» (now (voxels .entry))) faces) (now (visited .entry)) (now (out .entry)) (now (visited .exit)) (now (out .exit)) (r .listed) (r .tests) (r .counts) ⌝ }
+    ensures { λ r. ⌜ FacesMeshed (now (voxels .entry)) «voxels_shape» interior faces (now (visited .entry)) (now (out .entry)) (now (visited .exit)) (now (out .exit)) r ⌝ }
 {
     let mut counts = [0u64; 6];
     let mut listed: usize = 0;
@@ -355,7 +317,6 @@ fn mesh_faces(
             voxels,
             visited,
             out,
-            capacity,
             Progress { listed, tests },
             size,
             voxels_shape,
@@ -390,16 +351,7 @@ fn mesh(
     ensures { λ r. ⌜ outcome r (now (visited .exit)) (now (out .exit)) ≡ greedyFrom (accepted tt) size interior (shape.field «voxels_shape» (now (voxels .entry))) faces (now (visited .entry)) (now (out .entry)) ⌝ }
 {
     let capacity = out.len() / QUAD_NUMBERS;
-    let meshed = mesh_faces(
-        voxels,
-        visited,
-        out,
-        capacity,
-        size,
-        voxels_shape,
-        interior,
-        faces,
-    );
+    let meshed = mesh_faces(voxels, visited, out, size, voxels_shape, interior, faces);
     visited::clear(visited, size);
     let listed = meshed.listed;
     let counts = meshed.counts;

@@ -15,6 +15,8 @@ pub mod Laid
 pub mod Covers
 -- Of areas, which follow from cover.
 pub mod Areas
+-- Of walks.
+pub mod Walks
 -- Of the rectangles that the walk picks.
 pub mod Picks
 -- Of the tests that a group takes.

@@ -23,8 +23,7 @@ entry c = c .before .before .before .before .before .before
 -- ---- the needs
 
 mesh-faces-requires : tie.Need-mesh-faces-requires
-unfolding capacity
-mesh-faces-requires c κs = let h = c .before .before .before .before .before .pre in ((refl, h .0), h .1)
+mesh-faces-requires c κs = c .before .before .before .before .before .pre
 
 clear-requires : tie.Need-clear-requires
 clear-requires c κs =
@@ -44,7 +43,7 @@ returns : tie.Need-returns
 unfolding capacity
 returns c =
     let done = c .before in
-    many-left _ _ _ _ (meshing (clearing done) .mesh-faces .ensures) refl (done .answered .ensures) (clearing done .clear .ensures) (c .if1 .taken)
+    many-left (meshing (clearing done) .mesh-faces .ensures) (entry (meshing (clearing done)) .pre .0) refl (done .answered .ensures) (clearing done .clear .ensures) (c .if1 .taken)
 
 same-length-3 : tie.Need-same-length-3
 same-length-3 c = search needs
@@ -56,7 +55,7 @@ returns-2 : tie.Need-returns-2
 unfolding capacity
 returns-2 c =
     let done = c .before in
-    all-left _ _ _ _ (meshing (clearing done) .mesh-faces .ensures) refl (done .answered .ensures) (clearing done .clear .ensures) (c .if1 .left)
+    all-left (meshing (clearing done) .mesh-faces .ensures) (entry (meshing (clearing done)) .pre .0) refl (done .answered .ensures) (clearing done .clear .ensures) (c .if1 .left)
 
 pub mesh-spec : {M : Type 1} → statement M
 mesh-spec =

@@ -1,45 +1,55 @@
 -- `scan_slices` meets its contract: what is scanned and what is left make all slices.
 use borrow.Author.Needs.{needs}
-use Prim.Native.Nat.{_-_, _*_}
+use Prim.Native.Nat.{ℕ, _-_}
 use native.Mathlib.Omega.{arith}
+use lib.ListN.{length}
 use Rattle.voxels.proofs.Loops.{next-fits}
-use Rattle.greedy.specs.Inner.{sliceAlong, slicesAlong, voxelTests}
-use Rattle.greedy.proofs.Loops.{Scanning, scan-start, scan-room, scan-on, scan-done}
+use Rattle.greedy.specs.Scans.{progress, sliceAlong, slicesAlong, SliceScan, sliceTests}
+use Rattle.greedy.proofs.Scanning.{Scanning, scan-start, scan-room, scan-asks, scan-on, scan-done}
 use Rattle.greedy.proofs.scan_slices.Statement.{statement}
 use Rattle.greedy.proofs.scan_slices.Tie as tie
 
 abbrev Inv-loop : tie.InvT-loop
-Inv-loop voxels visited₀ out₀ capacity scan step count from listed₀ tests₀ k₀ i₀ visited out listed tests k i = Scanning (sliceAlong voxels scan) (scan .rows .count * (scan .row .count * voxelTests)) step from i₀ count visited₀ out₀ listed₀ tests₀ visited out listed tests k i
+Inv-loop voxels visited₀ out₀ scan step count from reached₀ k₀ i₀ visited out reached k i = Scanning (sliceAlong voxels scan) (sliceTests scan) step from i₀ count (progress visited₀ out₀ reached₀) (progress visited out reached) k i
 
 abbrev μ-loop : tie.MeasureT-loop
-μ-loop voxels visited₀ out₀ capacity scan step count from listed₀ tests₀ k₀ i₀ visited out listed tests k i = count - k
+μ-loop voxels visited₀ out₀ scan step count from reached₀ k₀ i₀ visited out reached k i = count - k
+
+-- A turn that has scanned a slice, back to where it began; and the loop's test, back to the entry.
+abbrev begun : tie.After-scan-slice Inv-loop μ-loop → tie.In-loop Inv-loop μ-loop
+begun c = c .before .before .before
+
+abbrev entry : tie.In-loop Inv-loop μ-loop → tie.Start Inv-loop μ-loop
+entry c = c .before .before .before .before .before .before
 
 loop-holds : tie.Need-loop-holds Inv-loop μ-loop
-loop-holds c = scan-start (c .before .before .before .before .pre .0 .1)
+loop-holds c = scan-start (c .before .before .before .before .pre .0 .0)
 
 add-scan-slice : tie.Need-add-scan-slice Inv-loop μ-loop
-add-scan-slice c = record { fits = omega (arith, c .before .before .before .before .before .before .before .before .pre .1 .end) }
+add-scan-slice c = record { fits = omega (arith, entry (c .before .before) .pre .1 .end) }
 
 scan-slice-requires : tie.Need-scan-slice-requires Inv-loop μ-loop
 scan-slice-requires c κs =
-    let h = c .before .before .before .before .before .before .before .before .pre in
-    let l = c .before .before .before .loop in
-    let taken = c .before .before .loop-test .taken in
-    ((rw (l .inv .out-long) (h .0 .0), l .inv .few, scan-room (l .inv) taken (h .0 .2)), rw (l .inv .at .place, l .inv .marks-long) (h .1 .each (l .k) taken))
+    let turn = c .before .before in
+    let start = entry turn in
+    let l = turn .before .loop .inv in
+    (scan-room l (turn .loop-test .taken) (start .pre .0), scan-asks l (λ (marks x j : ℕ). SliceScan (length (start .args .voxels .now)) marks (start .args .scan) x j) (start .pre .1) (turn .loop-test .taken))
 
 add-k : tie.Need-add-k Inv-loop μ-loop
 add-k c = search needs
 
 add-i : tie.Need-add-i Inv-loop μ-loop
-add-i c = record { fits = omega (arith, next-fits (c .before .before .before .before .before .before .before .before .loop .inv .at) (c .before .before .before .before .before .before .before .loop-test .taken) (c .before .before .before .before .before .before .before .before .before .before .before .before .before .pre .1 .last)) }
+add-i c =
+    let turn = begun (c .before .before .before .before) in
+    record { fits = omega (arith, next-fits (turn .before .loop .inv .at) (turn .loop-test .taken) (entry turn .pre .1 .last)) }
 
 loop-less : tie.Need-loop-less Inv-loop μ-loop
 loop-less c = omega arith
 
 loop-again : tie.Need-loop-again Inv-loop μ-loop
 loop-again c =
-    let turn = c .before .before .before .before .scan-slice in
-    scan-on (c .before .before .before .before .before .before .before .before .loop .inv) (c .before .before .before .before .before .before .before .loop-test .taken) (turn .ensures) (turn .kept .1 .0) (turn .kept .1 .1 .0)
+    let made = c .before .before .before .before in
+    scan-on (begun made .before .loop .inv) (begun made .loop-test .taken) (made .scan-slice .ensures) (made .scan-slice .kept .1 .0) (made .scan-slice .kept .1 .1 .0)
 
 same-length : tie.Need-same-length Inv-loop μ-loop
 same-length c = c .before .loop .inv .marks-long

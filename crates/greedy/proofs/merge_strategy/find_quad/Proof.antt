@@ -8,8 +8,9 @@ use lib.ListN.{getD}
 use Rattle.voxels.specs.Visible.{modulus}
 use Rattle.voxels.specs.Loop.{stepBy}
 use Rattle.voxels.proofs.Loops.{Underway, underway-start, underway-on, next-fits}
-use Rattle.rules.specs.Merger.{walk}
-use Rattle.greedy.specs.Inner.{walkedRows, afterRows, rowAt}
+use Rattle.rules.specs.Merger.{walk, walkedRows}
+use Rattle.rules.proofs.Walks.{afterRows}
+use Rattle.greedy.specs.Walks.{rowAt}
 use Rattle.greedy.proofs.Walks.{first-row, first-voxel, first-step, next-row, rows-last, row-at-most, rows-on, rows-stop, rows-done, quad-from}
 use Rattle.greedy.proofs.merge_strategy.find_quad.Statement.{statement}
 use Rattle.greedy.proofs.merge_strategy.find_quad.Tie as tie

@@ -6,7 +6,9 @@ use Prim.Native.Nat.{_-_}
 use native.Mathlib.Omega.{arith}
 use Rattle.voxels.specs.Loop.{stepBy}
 use Rattle.voxels.proofs.Loops.{Underway, underway-start, underway-on, next-fits}
-use Rattle.greedy.specs.Inner.{walked, after, joinsAt, rowAt}
+use Rattle.rules.specs.Merger.{walked}
+use Rattle.rules.proofs.Walks.{after}
+use Rattle.greedy.specs.Walks.{joinsAt, rowAt}
 use Rattle.greedy.proofs.Walks.{walk-start, walk-on, walk-stops, walk-done, unneeded-not, joins-by}
 use Rattle.greedy.proofs.merge_strategy.get_row_width.Statement.{statement}
 use Rattle.greedy.proofs.merge_strategy.get_row_width.Tie as tie

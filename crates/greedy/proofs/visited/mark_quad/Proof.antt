@@ -6,7 +6,7 @@ use native.Mathlib.Omega.{arith}
 use lib.ListN.{length}
 use Rattle.voxels.specs.Loop.{steps}
 use Rattle.voxels.proofs.Loops.{Underway, underway-start, underway-on, next-fits, steps-start, steps-on, steps-done}
-use Rattle.greedy.specs.Inner.{markRowAt, markQuadAt}
+use Rattle.greedy.specs.Marks.{markRowAt, markQuadAt}
 use Rattle.greedy.proofs.visited.mark_quad.Statement.{statement}
 use Rattle.greedy.proofs.visited.mark_quad.Tie as tie
 

@@ -6,7 +6,7 @@ use native.Mathlib.Omega.{arith}
 use lib.ListN.{length, length-set}
 use Rattle.voxels.specs.Loop.{steps}
 use Rattle.voxels.proofs.Loops.{Underway, underway-start, underway-on, next-fits, steps-start, steps-on, steps-done}
-use Rattle.greedy.specs.Inner.{markAt, markRowAt}
+use Rattle.greedy.specs.Marks.{markAt, markRowAt}
 use Rattle.greedy.proofs.visited.mark_row.Statement.{statement}
 use Rattle.greedy.proofs.visited.mark_row.Tie as tie
 

@@ -1,7 +1,7 @@
 -- `FaceScan::new` meets its contract.
 use borrow.Author.Needs.{needs}
 use mathlib.Core.Path.{ap, _∙_}
-use Rattle.greedy.specs.Inner.{spanOf}
+use Rattle.greedy.specs.Spans.{spanOf}
 use Rattle.greedy.proofs.Faces.{scan-from}
 use Rattle.greedy.proofs.face_scan.FaceScan.new.Statement.{statement}
 use Rattle.greedy.proofs.face_scan.FaceScan.new.Tie as tie
