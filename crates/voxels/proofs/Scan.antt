@@ -60,11 +60,11 @@ pub gathered-scan : {A : Type 0} (f : Point → List A) (e : Extent) → gathere
 unfolding scan gathered
 gathered-scan f e =
     gathered-every f 1 _ (e .minimum .z) (e .bound .z - e .minimum .z)
-    ∙ loops-same _ _ _ _ _ _ _ _ _ (λ z _.
+    ∙ loops-same _ _ _ _ _ _ _ _ _ (λ k _.
     gathered-every f 1 _ (e .minimum .y) (e .bound .y - e .minimum .y)
-    ∙ loops-same _ _ _ _ _ _ _ _ _ (λ y _.
+    ∙ loops-same _ _ _ _ _ _ _ _ _ (λ j _.
     gathered-every f 1 _ (e .minimum .x) (e .bound .x - e .minimum .x)
-    ∙ loops-same _ _ _ _ _ _ _ _ _ (λ x _. append-nil (f (at _ _ _)))))
+    ∙ loops-same _ _ _ _ _ _ _ _ _ (λ i _. append-nil _)))
 
 -- A point so many steps up from the minimum, fewer than to the bound, lies in the extent.
 pub inside-at : (e : Extent) (i j k : ℕ) → i < e .bound .x - e .minimum .x → j < e .bound .y - e .minimum .y → k < e .bound .z - e .minimum .z
