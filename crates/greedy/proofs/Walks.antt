@@ -16,7 +16,7 @@ use Rattle.voxels.specs.Inner.{mostVoxels}
 use Rattle.voxels.proofs.Loops.{more, done, Underway}
 use Rattle.rules.specs.Merger.{Walked, walk, pick, walked, walkedRows}
 use Rattle.rules.proofs.Walks.{after, afterRows, walk-passes, walk-fails, rows-whole, rows-broken, walked-at-most}
-use Rattle.greedy.specs.Walks.{needsAt, joinsAt, rowAt, quadAt, WalkReady, QuadReady}
+use Rattle.greedy.specs.Walks.{needsAt, joinsAt, Touches, rowAt, quadAt, WalkReady, QuadReady}
 
 -- A loop that walks, k of most passed.
 module _ {A : Type 0} (ok : A → Bool) (next : A → A) where
@@ -87,6 +87,10 @@ module _ (vs marks : List ℕ) (offset i : ℕ) where
 pub row-at-most : (vs marks : List ℕ) (off first d most i : ℕ) {w : Walked} → w ≡ rowAt vs marks off first d most i → w .got ≤ most
 unfolding rowAt
 row-at-most vs marks off first d most i e = rw e (walked-at-most (joinsAt vs marks off first) (stepBy d) most i)
+
+-- In a loop over a row's voxels, what the test of the next one reads was lent.
+pub touches-at : {vn mn off i d most : ℕ} → WalkReady vn mn off i d most → {k j : ℕ} → Underway d i most k j → k < most → Touches vn mn off j
+touches-at ready {k} l h = rw (l .place) (ready .each k h)
 
 -- Part of a row is ready where the row is.
 pub row-less : {vn mn off i d : ℕ} (m n : ℕ) → m ≤ n → WalkReady vn mn off i d n → WalkReady vn mn off i d m
