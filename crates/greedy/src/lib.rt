@@ -270,16 +270,16 @@ fn greedy_quads_for_face(
     visited: &mut [u8],
     out: &mut [u32],
     before: Progress,
-    size: usize,
+    marks: usize,
     voxels_shape: UVec3,
     interior: Extent,
     face: OrientedBlockFace,
 ) -> Progress
-    requires { ⌜ (size ≡ shape.size «voxels_shape») × RoomFor (mostVoxels * voxelTests) (progress (now visited) (now out) before) ⌝ }
+    requires { ⌜ (marks ≡ shape.size «voxels_shape») × RoomFor (mostVoxels * voxelTests) (progress (now visited) (now out) before) ⌝ }
     requires { ⌜ Accepted (length (now voxels)) (length (now visited)) «voxels_shape» interior ⌝ }
     ensures { λ r. ⌜ FaceMeshed (now (voxels .entry)) «voxels_shape» interior face (progress (now (visited .entry)) (now (out .entry)) before) (progress (now (visited .exit)) (now (out .exit)) r) ⌝ }
 {
-    visited::clear(visited, size);
+    visited::clear(visited, marks);
     let scan = FaceScan::new(voxels_shape, interior, face);
     let minimum = interior.minimum;
     let start = VoxelIndex::linearize(voxels_shape, minimum);
