@@ -10,16 +10,9 @@ use Rattle.spunmarrow.proofs.draw.spunmarrow_corner.Tie as tie
 
 -- ---- places
 
--- Where the position is asked for, where its corner had been read,
+-- Where the position is asked for, where its corner had been read.
 abbrev choosing : tie.After-quad-mesh-position → tie.After-which
 choosing c = c .before .before .before
-
--- and where its face had been made.
-abbrev facing : tie.After-corner → tie.After-face2
-facing c = c .before .before
-
-abbrev entry : tie.After-face2 → tie.Start
-entry c = c .before .before .before
 
 -- ---- the needs
 
@@ -55,16 +48,14 @@ enum-known-x c = search needs
 
 returns : tie.Need-returns
 unfolding cornerCall
-returns c =
-    let told = c .before in
-    rw (face-read _ _ (told .before .before .before .fits .sign) (told .before .before .face .ensures) (told .number .given .1))
+returns c = rw (face-read _ _ (c .before .before .before .before .fits .sign) (c .before .before .before .face .ensures) (c .before .number .given .1))
 
 returns-2 : tie.Need-returns-2
 unfolding cornerCall
 returns-2 c =
     let told = c .before in
-    let face = facing (told .before .before) in
-    rw (face-read _ _ (entry face .fits .sign) (face .before .before .face .ensures) (face .face2 .given .1), sym (told .before .before .corner .ensures) ∙ ap cornerMeaning (told .number2 .given .1))
+    let face = told .before .before .before .before in
+    rw (face-read _ _ (face .before .before .before .fits .sign) (face .before .before .face .ensures) (face .face2 .given .1), sym (told .before .before .corner .ensures) ∙ ap cornerMeaning (told .number2 .given .1))
 
 returns-3 : tie.Need-returns-3
 unfolding cornerCall
@@ -72,8 +63,8 @@ returns-3 c =
     let told = c .before in
     let position = told .before .before in
     let corner = choosing position in
-    let face = facing (corner .before .before) in
-    rw (face-read _ _ (entry face .fits .sign) (face .before .before .face .ensures) (face .face2 .given .1), sym (corner .before .before .corner .ensures) ∙ ap cornerMeaning (corner .which .given .1), ← position .before .quad .ensures, sym (position .quad-mesh-position .ensures) ∙ ap positionMeaning (told .number3 .given .1))
+    let face = corner .before .before .before .before in
+    rw (face-read _ _ (face .before .before .before .fits .sign) (face .before .before .face .ensures) (face .face2 .given .1), sym (corner .before .before .corner .ensures) ∙ ap cornerMeaning (corner .which .given .1), ← position .before .quad .ensures, sym (position .quad-mesh-position .ensures) ∙ ap positionMeaning (told .number3 .given .1))
 
 returns-4 : tie.Need-returns-4
 unfolding cornerCall
@@ -81,8 +72,8 @@ returns-4 c =
     let made = c .before .before in
     let position = made .before .before in
     let corner = choosing position in
-    let face = facing (corner .before .before) in
-    rw (face-read _ _ (entry face .fits .sign) (face .before .before .face .ensures) (face .face2 .given .1), sym (corner .before .before .corner .ensures) ∙ ap cornerMeaning (corner .which .given .1), ← position .before .quad .ensures, sym (position .quad-mesh-position .ensures) ∙ ap positionMeaning (made .x .given .1))
+    let face = corner .before .before .before .before in
+    rw (face-read _ _ (face .before .before .before .fits .sign) (face .before .before .face .ensures) (face .face2 .given .1), sym (corner .before .before .corner .ensures) ∙ ap cornerMeaning (corner .which .given .1), ← position .before .quad .ensures, sym (position .quad-mesh-position .ensures) ∙ ap positionMeaning (made .x .given .1))
 
 pub spunmarrow-corner-spec : {M : Type 1} → statement M
 spunmarrow-corner-spec =

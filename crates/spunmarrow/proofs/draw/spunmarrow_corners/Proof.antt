@@ -9,16 +9,9 @@ use Rattle.spunmarrow.proofs.draw.spunmarrow_corners.Tie as tie
 
 -- ---- places
 
--- Where the corners are written, where they were made,
+-- Where the corners are written, where they were made.
 abbrev making : tie.After-out → tie.After-corners
 making c = c .before .before .before .before .before .before
-
--- and where its face had been made.
-abbrev facing : tie.After-quad-corners → tie.After-face2
-facing c = c .before .before .before
-
-abbrev entry : tie.After-face2 → tie.Start
-entry c = c .before .before .before
 
 -- ---- the needs
 
@@ -45,25 +38,23 @@ enum-known-corners c = search needs
 
 returns : tie.Need-returns
 unfolding cornersCall
-returns c =
-    let told = c .before in
-    rw (face-read _ _ (told .before .before .before .fits .sign) (told .before .before .face .ensures) (told .number .given .1))
+returns c = rw (face-read _ _ (c .before .before .before .before .fits .sign) (c .before .before .before .face .ensures) (c .before .number .given .1))
 
 returns-2 : tie.Need-returns-2
 unfolding cornersCall
 returns-2 c =
     let told = c .before in
     let corners = told .before .before in
-    let face = facing corners in
-    rw (face-read _ _ (entry face .fits .sign) (face .before .before .face .ensures) (face .face2 .given .1), ← corners .before .quad .ensures, sym (corners .quad-corners .ensures) ∙ ap cornersMeaning (told .number2 .given .1))
+    let face = corners .before .before .before in
+    rw (face-read _ _ (face .before .before .before .fits .sign) (face .before .before .face .ensures) (face .face2 .given .1), ← corners .before .quad .ensures, sym (corners .quad-corners .ensures) ∙ ap cornersMeaning (told .number2 .given .1))
 
 returns-3 : tie.Need-returns-3
 unfolding cornersCall
 returns-3 c =
     let made = making c in
     let corners = made .before .before in
-    let face = facing corners in
-    rw (face-read _ _ (entry face .fits .sign) (face .before .before .face .ensures) (face .face2 .given .1), ← corners .before .quad .ensures, sym (corners .quad-corners .ensures) ∙ ap cornersMeaning (made .corners .given .1))
+    let face = corners .before .before .before in
+    rw (face-read _ _ (face .before .before .before .fits .sign) (face .before .before .face .ensures) (face .face2 .given .1), ← corners .before .quad .ensures, sym (corners .quad-corners .ensures) ∙ ap cornersMeaning (made .corners .given .1))
 
 pub spunmarrow-corners-spec : {M : Type 1} → statement M
 spunmarrow-corners-spec =

@@ -9,16 +9,9 @@ use Rattle.spunmarrow.proofs.draw.spunmarrow_indices.Tie as tie
 
 -- ---- places
 
--- Where the indices are written, where they were made,
+-- Where the indices are written, where they were made.
 abbrev making : tie.After-out → tie.After-i
 making c = c .before .before .before .before .before .before .before .before
-
--- and where its face had been made.
-abbrev facing : tie.After-quad-mesh-indices → tie.After-face2
-facing c = c .before .before
-
-abbrev entry : tie.After-face2 → tie.Start
-entry c = c .before .before .before
 
 -- ---- the needs
 
@@ -42,25 +35,23 @@ enum-known-i c = search needs
 
 returns : tie.Need-returns
 unfolding indicesCall
-returns c =
-    let told = c .before in
-    rw (face-read _ _ (told .before .before .before .fits .sign) (told .before .before .face .ensures) (told .number .given .1))
+returns c = rw (face-read _ _ (c .before .before .before .before .fits .sign) (c .before .before .before .face .ensures) (c .before .number .given .1))
 
 returns-2 : tie.Need-returns-2
 unfolding indicesCall
 returns-2 c =
     let told = c .before in
     let indices = told .before .before in
-    let face = facing indices in
-    rw (face-read _ _ (entry face .fits .sign) (face .before .before .face .ensures) (face .face2 .given .1), sym (indices .quad-mesh-indices .ensures) ∙ ap indicesMeaning (told .number2 .given .1))
+    let face = indices .before .before in
+    rw (face-read _ _ (face .before .before .before .fits .sign) (face .before .before .face .ensures) (face .face2 .given .1), sym (indices .quad-mesh-indices .ensures) ∙ ap indicesMeaning (told .number2 .given .1))
 
 returns-3 : tie.Need-returns-3
 unfolding indicesCall
 returns-3 c =
     let made = making c in
     let indices = made .before .before in
-    let face = facing indices in
-    rw (face-read _ _ (entry face .fits .sign) (face .before .before .face .ensures) (face .face2 .given .1), sym (indices .quad-mesh-indices .ensures) ∙ ap indicesMeaning (made .i .given .1))
+    let face = indices .before .before in
+    rw (face-read _ _ (face .before .before .before .fits .sign) (face .before .before .face .ensures) (face .face2 .given .1), sym (indices .quad-mesh-indices .ensures) ∙ ap indicesMeaning (made .i .given .1))
 
 pub spunmarrow-indices-spec : {M : Type 1} → statement M
 spunmarrow-indices-spec =

@@ -9,16 +9,9 @@ use Rattle.spunmarrow.proofs.draw.spunmarrow_normal.Tie as tie
 
 -- ---- places
 
--- Where the normal is written, where the normals were made,
+-- Where the normal is written, where the normals were made.
 abbrev making : tie.After-out → tie.After-normals
 making c = c .before .before .before
-
--- and where its face had been made.
-abbrev facing : tie.After-quad-mesh-normals → tie.After-face2
-facing c = c .before .before
-
-abbrev entry : tie.After-face2 → tie.Start
-entry c = c .before .before .before
 
 -- ---- the needs
 
@@ -42,25 +35,23 @@ enum-known-normals c = search needs
 
 returns : tie.Need-returns
 unfolding normalCall
-returns c =
-    let told = c .before in
-    rw (face-read _ _ (told .before .before .before .fits .sign) (told .before .before .face .ensures) (told .number .given .1))
+returns c = rw (face-read _ _ (c .before .before .before .before .fits .sign) (c .before .before .before .face .ensures) (c .before .number .given .1))
 
 returns-2 : tie.Need-returns-2
 unfolding normalCall
 returns-2 c =
     let told = c .before in
     let normals = told .before .before in
-    let face = facing normals in
-    rw (face-read _ _ (entry face .fits .sign) (face .before .before .face .ensures) (face .face2 .given .1), sym (normals .quad-mesh-normals .ensures) ∙ ap normalsMeaning (told .number2 .given .1))
+    let face = normals .before .before in
+    rw (face-read _ _ (face .before .before .before .fits .sign) (face .before .before .face .ensures) (face .face2 .given .1), sym (normals .quad-mesh-normals .ensures) ∙ ap normalsMeaning (told .number2 .given .1))
 
 returns-3 : tie.Need-returns-3
 unfolding normalCall
 returns-3 c =
     let made = making c in
     let normals = made .before .before in
-    let face = facing normals in
-    rw (face-read _ _ (entry face .fits .sign) (face .before .before .face .ensures) (face .face2 .given .1), sym (normals .quad-mesh-normals .ensures) ∙ ap normalsMeaning (made .normals .given .1))
+    let face = normals .before .before in
+    rw (face-read _ _ (face .before .before .before .fits .sign) (face .before .before .face .ensures) (face .face2 .given .1), sym (normals .quad-mesh-normals .ensures) ∙ ap normalsMeaning (made .normals .given .1))
 
 pub spunmarrow-normal-spec : {M : Type 1} → statement M
 spunmarrow-normal-spec =

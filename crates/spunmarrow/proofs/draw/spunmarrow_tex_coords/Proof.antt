@@ -14,16 +14,9 @@ use Rattle.spunmarrow.proofs.draw.spunmarrow_tex_coords.Tie as tie
 abbrev making : tie.After-out → tie.After-pairs
 making c = c .before .before .before .before .before .before
 
--- where the axis had been read before they were asked for,
+-- where the axis had been read before they were asked for.
 abbrev choosing : tie.After-tex-coords → tie.After-axis2
 choosing c = c .before .before .before
-
--- and where its face had been made.
-abbrev facing : tie.After-axis → tie.After-face2
-facing c = c .before .before
-
-abbrev entry : tie.After-face2 → tie.Start
-entry c = c .before .before .before
 
 -- ---- the needs
 
@@ -59,16 +52,14 @@ enum-known-pairs c = search needs
 
 returns : tie.Need-returns
 unfolding texCoordsCall
-returns c =
-    let told = c .before in
-    rw (face-read _ _ (told .before .before .before .fits .sign) (told .before .before .face .ensures) (told .number .given .1))
+returns c = rw (face-read _ _ (c .before .before .before .before .fits .sign) (c .before .before .before .face .ensures) (c .before .number .given .1))
 
 returns-2 : tie.Need-returns-2
 unfolding texCoordsCall
 returns-2 c =
     let told = c .before in
-    let face = facing (told .before .before) in
-    rw (face-read _ _ (entry face .fits .sign) (face .before .before .face .ensures) (face .face2 .given .1), sym (told .before .before .axis .ensures) ∙ ap axisMeaning (told .number2 .given .1))
+    let face = told .before .before .before .before in
+    rw (face-read _ _ (face .before .before .before .fits .sign) (face .before .before .face .ensures) (face .face2 .given .1), sym (told .before .before .axis .ensures) ∙ ap axisMeaning (told .number2 .given .1))
 
 returns-3 : tie.Need-returns-3
 unfolding texCoordsCall
@@ -76,8 +67,8 @@ returns-3 c =
     let told = c .before in
     let pairs = told .before .before in
     let axis = choosing pairs in
-    let face = facing (axis .before .before) in
-    rw (face-read _ _ (entry face .fits .sign) (face .before .before .face .ensures) (face .face2 .given .1), sym (axis .before .before .axis .ensures) ∙ ap axisMeaning (axis .axis2 .given .1), ← pairs .before .quad .ensures, sym (pairs .tex-coords .ensures) ∙ ap texCoordsMeaning (told .number3 .given .1))
+    let face = axis .before .before .before .before in
+    rw (face-read _ _ (face .before .before .before .fits .sign) (face .before .before .face .ensures) (face .face2 .given .1), sym (axis .before .before .axis .ensures) ∙ ap axisMeaning (axis .axis2 .given .1), ← pairs .before .quad .ensures, sym (pairs .tex-coords .ensures) ∙ ap texCoordsMeaning (told .number3 .given .1))
 
 returns-4 : tie.Need-returns-4
 unfolding texCoordsCall
@@ -85,8 +76,8 @@ returns-4 c =
     let made = making c in
     let pairs = made .before .before in
     let axis = choosing pairs in
-    let face = facing (axis .before .before) in
-    rw (face-read _ _ (entry face .fits .sign) (face .before .before .face .ensures) (face .face2 .given .1), sym (axis .before .before .axis .ensures) ∙ ap axisMeaning (axis .axis2 .given .1), ← pairs .before .quad .ensures, sym (pairs .tex-coords .ensures) ∙ ap texCoordsMeaning (made .pairs .given .1))
+    let face = axis .before .before .before .before in
+    rw (face-read _ _ (face .before .before .before .fits .sign) (face .before .before .face .ensures) (face .face2 .given .1), sym (axis .before .before .axis .ensures) ∙ ap axisMeaning (axis .axis2 .given .1), ← pairs .before .quad .ensures, sym (pairs .tex-coords .ensures) ∙ ap texCoordsMeaning (made .pairs .given .1))
 
 pub spunmarrow-tex-coords-spec : {M : Type 1} → statement M
 spunmarrow-tex-coords-spec =
