@@ -22,10 +22,9 @@ use Rattle.voxels.proofs.Entered.{inner-in-shape}
 use Rattle.listing.specs.Pushed.{Output, pushed, pushedAll}
 use Rattle.listing.proofs.Pushed.{pushed-append}
 use Rattle.listing.proofs.Groups.{map-one-more}
-use Rattle.rules.specs.Group.{sliceAt, sweep, passes, Choice, State, scanned, swept, fresh, group, Pick, roomU, roomV, quadOf}
+use Rattle.rules.specs.Group.{sliceAt, sweep, passes, Choice, State, scanned, swept, fresh, group, Pick, roomU, roomV, quadOf, groupFrom}
 use Rattle.rules.specs.Merger.{voxelMerger}
 use Rattle.rules.specs.Greedy.{greedyGroup}
-use Rattle.rules.specs.Choices.{groupFrom}
 use Rattle.rules.proofs.Spread.{spread, spread-index, spread-inside}
 use Rattle.greedy.specs.Greedy.{listed, quadNumbers, numbersOf}
 use Rattle.greedy.specs.Walks.{quadAt}

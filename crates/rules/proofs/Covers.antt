@@ -18,9 +18,9 @@ use Rattle.voxels.specs.Shape.{Field}
 use Rattle.voxels.specs.Extent.{Inside, inside}
 use Rattle.voxels.specs.Visible.{visible}
 use Rattle.voxels.proofs.Times.{inside-true}
-use Rattle.rules.specs.Group.{sweep, passes, Choice, roomU, roomV, State, scanned, swept, quadOf}
+use Rattle.rules.specs.Group.{sweep, passes, Choice, roomU, roomV, State, scanned, swept, quadOf, groupFrom}
 use Rattle.rules.specs.Demand.{covers, Cover, InSlice, Consistent}
-use Rattle.rules.specs.Choices.{Sound, groupFrom, Admissible, admit}
+use Rattle.rules.specs.Choices.{Sound, Admissible, admit}
 use Rattle.rules.proofs.Sweep.{sweep-inside, inside-sweep}
 use Rattle.rules.proofs.Laid.{covers-more, fails-covered, sound-admitted, laid-in-slice, laid-contains, laid-consistent}
 use Rattle.voxels.specs.declared.extent.Extent.{Extent}

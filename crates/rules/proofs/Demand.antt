@@ -12,11 +12,11 @@ use Rattle.voxels.specs.Shape.{Field, size, index, field}
 use Rattle.voxels.specs.Extent.{scan}
 use Rattle.voxels.specs.Loop.{looped}
 use Rattle.voxels.specs.Visible.{stepped, visible}
-use Rattle.rules.specs.Group.{sliceAt, sweep, among, contains, visited, passes, Choice, roomU, roomV, State, scanned, swept, fresh, group}
+use Rattle.rules.specs.Group.{sliceAt, sweep, among, contains, visited, passes, Choice, roomU, roomV, State, scanned, swept, fresh, group, groupFrom}
 use Rattle.rules.specs.Merger.{follows, walked, walkedRows, rowWalk, rowsWalk, voxelMerger}
 use Rattle.rules.specs.Greedy.{greedyGroup}
 use Rattle.rules.specs.Demand.{sumOf, Cover, Areas, Tests, points, visiblePoints, mostTests, DemandHolds, InSlice, Uniform, Consistent}
-use Rattle.rules.specs.Choices.{groupFrom, admit}
+use Rattle.rules.specs.Choices.{admit}
 use Rattle.rules.specs.Table.{O, placed, block, wholeInterior, face}
 use Rattle.rules.proofs.Sweep.{sweep-inside, sweep-length}
 use Rattle.rules.proofs.Laid.{admit-sound}

@@ -1,5 +1,5 @@
--- What demand 3 rests on: neither on what picks the rectangles nor, beyond its being `Consistent`, on what a group begins with. That cover and areas hold of any choice made safe by `admit`, from any
--- such start, is `admitted-cover` and `admitted-areas`, and that `VoxelMerger`'s walk needs no making safe `walk-admitted` (proofs/Demand.antt).
+-- Any choice, any start. Cover and areas of demand 3 rest neither on what picks the rectangles nor, beyond its being `Consistent`, on what a group begins with: they hold of any choice made safe by
+-- `admit`, laid on from any such start (`admitted-cover`, `admitted-areas`, proofs/Demand.antt), and `VoxelMerger`'s walk needs no making safe (`walk-admitted`).
 use mathlib.Core.Bool.{Bool, true, false, _&&_}
 use mathlib.Core.List.{List, [], _∷_}
 use mathlib.Core.Path.{_≡_}
@@ -11,17 +11,9 @@ use Rattle.geometry.specs.Point.{Point, moved}
 use Rattle.geometry.specs.Axes.{nAxis, uAxis, vAxis}
 use Rattle.voxels.specs.Shape.{Field}
 use Rattle.voxels.specs.Extent.{scan}
-use Rattle.rules.specs.Group.{sweep, contains, passes, Pick, quadOf, Choice, State, swept}
+use Rattle.rules.specs.Group.{contains, passes, Pick, quadOf, Choice}
 use Rattle.rules.specs.Merger.{pick}
 use Rattle.voxels.specs.declared.extent.Extent.{Extent}
-
--- ---- any start
-
--- The group of a face over an interior, laid on from a start: all interior points are scanned. `group` begins with no quads and no tests.
-abbrev pub groupFrom : OrientedBlockFace → Field → Extent → Choice → State → State
-groupFrom f v inner choice s = swept f v inner choice s (sweep (nAxis f) inner)
-
--- ---- any choice
 
 -- A pick at a point, with so many voxels of room along u and along v, is admissible: at least 1 by 1, within the room, and every voxel of it passes the test.
 pub record Admissible (f : OrientedBlockFace) (v : Field) (qs : List UnorientedQuad) (p : Point) (wide high : ℕ) (c : Pick) : Type 0 where

@@ -81,6 +81,8 @@ pub record InSlice (f : OrientedBlockFace) (inner : Extent) (q : UnorientedQuad)
 abbrev pub Uniform : OrientedBlockFace → Field → UnorientedQuad → Type 0
 Uniform f v q = (p : Point) → contains f q p ≡ true → uniform (v (q .minimum)) (v p) ≡ true
 
--- Quads that a group may begin with: every point lies in at most one of them, and in none unless it is interior and its face is visible.
+-- ---- quads that a group may begin with
+
+-- They are consistent: every point lies in at most one of them, and in none unless it is interior and its face is visible.
 abbrev pub Consistent : OrientedBlockFace → Field → Extent → List UnorientedQuad → Type 0
 Consistent f v inner quads = (p : Point) → covers f quads p ≤ bit (inside inner p && visible f v p)

@@ -95,10 +95,14 @@ unfoldable pub swept : OrientedBlockFace → Field → Extent → Choice → Sta
 swept f v e choice s [] = s
 swept f v e choice s (p ∷ ps) = swept f v e choice (scanned f v e choice s p) ps
 
+-- The group of a face over an interior, laid on from a start: all interior points are scanned.
+abbrev pub groupFrom : OrientedBlockFace → Field → Extent → Choice → State → State
+groupFrom f v inner choice s = swept f v inner choice s (sweep (nAxis f) inner)
+
 -- No quads and no tests: "each with its own cleared visited marks" (125).
 abbrev pub fresh : State
 fresh = record { quads = []; tests = 0 }
 
 -- The group of a face over an interior.
 unfoldable pub group : OrientedBlockFace → Field → Extent → Choice → State
-group f v e choice = swept f v e choice fresh (sweep (nAxis f) e)
+group f v inner choice = groupFrom f v inner choice fresh
