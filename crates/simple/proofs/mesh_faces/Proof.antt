@@ -7,14 +7,12 @@ use Rattle.simple.proofs.mesh_faces.Tie as tie
 
 -- ---- places
 
--- From where the slices are known back to the first index, the strides and the entry,
-abbrev indexed : tie.After-new → tie.After-linearize
-indexed c = c .before
+-- From where the first index is known back to the strides,
+abbrev kernel : tie.After-linearize → tie.After-kernel-strides
+kernel c = c .before .before
 
-abbrev kernel : tie.After-new → tie.After-kernel-strides
-kernel c = c .before .before .before
-
-abbrev entry : tie.After-new → tie.Start
+-- and to the entry,
+abbrev entry : tie.After-linearize → tie.Start
 entry c = kernel c .before .before .before
 
 -- from the counts back to the slices,
@@ -29,18 +27,21 @@ counted c = c .before .before .before .before
 abbrev started : tie.After-cursors3 → tie.After-run-starts
 started c = c .before .before .before .before
 
--- ---- what is meshed
+-- ---- what is meshed, once its slices are known
 
 meshing : (c : tie.After-new) →
-    let a = entry c .args in
-    Meshing (a .voxels .now) (a .voxels-shape) (a .interior) (a .faces) (kernel c .kernel-strides .result) (indexed c .linearize .result .0) (c .new .result)
-meshing c = record {
-  can = entry c .pre;
-  six = entry c .good .1 .1 .1 .1 .0 .1 .0 .1;
-  kernel = kernel c .kernel-strides .ensures;
-  first = indexed c .linearize .ensures;
-  through = c .new .ensures;
-}
+    let first = c .before in
+    let a = entry first .args in
+    Meshing (a .voxels .now) (a .voxels-shape) (a .interior) (a .faces) (kernel first .kernel-strides .result) (first .linearize .result .0) (c .new .result)
+meshing c =
+    let first = c .before in
+    record {
+      can = entry first .pre;
+      six = entry first .good .1 .1 .1 .1 .0 .1 .0 .1;
+      kernel = kernel first .kernel-strides .ensures;
+      first = first .linearize .ensures;
+      through = c .new .ensures;
+    }
 
 -- ---- the needs
 
@@ -51,7 +52,7 @@ linearize-requires : tie.Need-linearize-requires
 linearize-requires c κs = search needs
 
 new-requires : tie.Need-new-requires
-new-requires c κs = record { lent = _; entered = c .before .before .before .before .before .pre .entered }
+new-requires c κs = record { lent = _; entered = entry c .pre .entered }
 
 slice-aggregate-count-slices : tie.Need-slice-aggregate-count-slices
 slice-aggregate-count-slices c = search needs

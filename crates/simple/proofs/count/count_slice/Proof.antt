@@ -25,13 +25,15 @@ long-fits c =
 
 returns : tie.Need-returns
 returns c =
-    let a = c .before .before .before .args in
-    counted-none _ (c .before .before .before .pre .room .all) (λ f. omega (arith, rows-at-most (a .voxels .now) (offsetOf (a .strides) f) (a .rows) (a .at .0), ap (λ (n : ℕ). a .rows .high * n) (c .if1 .taken)))
+    let start = c .before .before .before in
+    let a = start .args in
+    counted-none _ (start .pre .room .all) (λ f. omega (arith, rows-at-most (a .voxels .now) (offsetOf (a .strides) f) (a .rows) (a .at .0), ap (λ (n : ℕ). a .rows .high * n) (c .if1 .taken)))
 
 returns-2 : tie.Need-returns-2
 returns-2 c =
-    let a = c .before .before .before .before .args in
-    counted-none _ (c .before .before .before .before .pre .room .all) (λ f. omega (arith, rows-at-most (a .voxels .now) (offsetOf (a .strides) f) (a .rows) (a .at .0), ap (λ (n : ℕ). n * a .rows .wide) (c .if2 .taken)))
+    let start = c .before .before .before .before in
+    let a = start .args in
+    counted-none _ (start .pre .room .all) (λ f. omega (arith, rows-at-most (a .voxels .now) (offsetOf (a .strides) f) (a .rows) (a .at .0), ap (λ (n : ℕ). n * a .rows .wide) (c .if2 .taken)))
 
 sub-long : tie.Need-sub-long
 sub-long c = search needs
