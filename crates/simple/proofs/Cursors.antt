@@ -10,7 +10,7 @@ use Rattle.voxels.proofs.Loops.{both-start, both-next, loop-none, sums-join, un
 use Rattle.listing.specs.Pushed.{Output, output, pushed, pushedAll}
 use Rattle.listing.proofs.Pushed.{pushed-counts}
 use Rattle.simple.specs.Unit.{unitNumbers, numbersOf}
-use Rattle.simple.specs.Inner.{laidRun, laidRuns, Apart, Listed}
+use Rattle.simple.specs.List.{laidRun, laidRuns, Apart, RunsListed}
 use Rattle.simple.proofs.Totals.{in-step-length}
 use Rattle.simple.proofs.Sixes.{counted-none, counted-same, Growing, growing-start, growing-on, growing-still, growing-done}
 use Rattle.simple.proofs.Counting.{Counting, counting-start, counting-on, counting-done}
@@ -57,13 +57,13 @@ module _ {was cursors : List ℕ} {quads : ℕ → List Point} where
           is = runs-more out′ (rw one (ap (λ (s : Output). s .out) push));
         }
 
-    pub faces-done : 6 ≤ f → Listed was cursors quads out now
+    pub faces-done : 6 ≤ f → RunsListed was cursors quads out now
     faces-done h =
         let six : f ≡ 6 = omega (arith, l .moved .within) in
         record { is = rw six at (l .is); moved = growing-done (l .moved) h }
 
   -- Where no face has a quad all is as it was.
-  pub faces-none : length cursors ≡ 6 → ((f : ℕ) → quads f ≡ []) → Listed was cursors quads was cursors
+  pub faces-none : length cursors ≡ 6 → ((f : ℕ) → quads f ≡ []) → RunsListed was cursors quads was cursors
   faces-none six none = record { is = sym (runs-none 6 was _ _ (λ f b. none f)); moved = counted-none _ six (λ f. ap length (none f)) }
 
 -- ---- a loop that lists
@@ -109,7 +109,7 @@ module _ {d : ℕ} {g : ℕ → ℕ → ℕ → List Point} {size : ℕ → ℕ 
       pub runs-apart : Apart cursors (λ (f : ℕ). g f (a + k) j)
       runs-apart f b = omega (arith, left-apart f b)
 
-      pub runs-on : {out′ cursors′ : List ℕ} → Listed out cursors (λ (f : ℕ). g f (a + k) j) out′ cursors′ → length out′ ≡ length out → Listing d g size a i n out₀ cursors₀ out′ cursors′ (k + 1) (j + d)
+      pub runs-on : {out′ cursors′ : List ℕ} → RunsListed out cursors (λ (f : ℕ). g f (a + k) j) out′ cursors′ → length out′ ≡ length out → Listing d g size a i n out₀ cursors₀ out′ cursors′ (k + 1) (j + d)
       runs-on {out′} {cursors′} made long =
           let first : ℕ → List Point = λ f. g f (a + k) j in
           let rest : ℕ → List Point = λ f. inStep d (g f) (a + (k + 1)) (j + d) (n - (k + 1)) in
@@ -125,7 +125,7 @@ module _ {d : ℕ} {g : ℕ → ℕ → ℕ → List Point} {size : ℕ → ℕ 
           }
 
     -- At the end nothing is left.
-    pub runs-done : n ≤ k → Listed out₀ cursors₀ (λ (f : ℕ). inStep d (g f) a i n) out cursors
+    pub runs-done : n ≤ k → RunsListed out₀ cursors₀ (λ (f : ℕ). inStep d (g f) a i n) out cursors
     runs-done h =
         record {
           is = sym (runs-none 6 out _ _ (λ f b. loop-none [] _++_ (onBy d) (λ (p : Stand). g f (p .coordinate) (p .index)) (stand (a + k) j) k n h)) ∙ l .whole;

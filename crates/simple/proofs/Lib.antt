@@ -7,16 +7,16 @@ pub mod Totals
 pub mod Sixes
 -- Of loops that count.
 pub mod Counting
--- Of a slice as one run.
+-- Of rows as one run.
 pub mod Flat
 -- Of runs of quads, one for each face.
 pub mod Runs
 -- Of listing from six cursors.
 pub mod Cursors
+-- That no voxel of an accepted box is bad.
+pub mod Soundness
 -- Of a face's group, by indices.
 pub mod Faces
--- That no voxel that is read is bad.
-pub mod Soundness
 -- From the loops to the groups.
 pub mod Whole
 -- From the entry to the whole outcome.

@@ -10,13 +10,13 @@ use Rattle.geometry.proofs.Refusals.{accepts-checked, answer-refused}
 use Rattle.voxels.specs.Shape.{field}
 use Rattle.voxels.specs.Checks.{unitChecks}
 use Rattle.voxels.specs.Answers.{entry}
-use Rattle.voxels.specs.Inner.{Entered, SoundAround}
 use Rattle.voxels.proofs.Passed.{Passed, unit-passed}
 use Rattle.voxels.proofs.Held.{bounds-held}
 use Rattle.voxels.proofs.Entered.{interior-is}
 use Rattle.voxels.proofs.Lowest.{sound-around}
 use Rattle.listing.specs.Outcome.{meshAnswer, MeshOutcome, outcome, listedOutcome}
 use Rattle.listing.proofs.Outcome.{entry-refused}
+use Rattle.simple.specs.Kernel.{Meshable}
 use Rattle.simple.specs.Unit.{unitNumbers, numbersOf, unitFrom, visibleBlockFaces}
 use Rattle.voxels.specs.declared.bounds.Entry.{Entry}
 use Rattle.listing.specs.declared.MeshAnswer.{MeshAnswer}
@@ -41,13 +41,15 @@ module _ (voxels : List ℕ) (shape min max : Point) (faces : List OrientedBlock
     passed : Passed voxels shape min max faces
     passed = unit-passed voxels shape min max faces (accepts-checked checks (entry shape min max) enters)
 
-    -- and its interior is that of such a box.
-    pub is-entered : Entered (length voxels) shape (e .interior)
-    is-entered = record { min = min; max = max; is = interior-is checks shape min max enters; held = bounds-held shape (length voxels) min max (passed .bounds) }
-
-    -- No voxel of the box around it is bad.
-    pub is-sound : ((i : ℕ) → getD voxels i 0 < 65_536) → SoundAround voxels shape (e .interior)
-    is-sound small = rw (interior-is checks shape min max enters) (sound-around shape (length voxels) min max (bounds-held shape (length voxels) min max (passed .bounds)) voxels (passed .sound) small)
+    -- and its interior can be meshed: it is that of such a box, and no voxel of the box is bad.
+    pub is-meshable : ((i : ℕ) → getD voxels i 0 < 65_536) → Meshable voxels shape (e .interior)
+    is-meshable small =
+        let is = interior-is checks shape min max enters in
+        let held = bounds-held shape (length voxels) min max (passed .bounds) in
+        record {
+          entered = record { min = min; max = max; is = is; held = held };
+          sound = rw is (sound-around shape (length voxels) min max held voxels (passed .sound) small);
+        }
 
     -- It leaves what meshing leaves.
     pub entered-outcome : (out : List ℕ) {o : MeshOutcome} → o ≡ unitFrom (accepted tt) (e .interior) (field shape voxels) faces out → o ≡ visibleBlockFaces voxels shape min max faces out

@@ -3,18 +3,22 @@ use mathlib.Core.Bool.{Bool, true, false}
 use mathlib.Core.List.{List}
 use mathlib.Core.Path.{_≡_, refl}
 use Prim.Native.Nat.{ℕ, zero, suc, _+_, _*_, _≤_, _<_}
-use native.Mathlib.Nat.{zero-add, suc-add, zero-mul, suc-mul, mul-one}
+use native.Mathlib.Nat.{zero-add, suc-add, zero-mul, suc-mul, mul-one, mul-le-mul-left}
 use native.Mathlib.Omega.{arith}
 use lib.ListN.{length, getD}
 use Rattle.geometry.specs.Axes.{bit}
-use Rattle.geometry.specs.Point.{at}
+use Rattle.geometry.specs.Point.{Point, at}
 use Rattle.geometry.proofs.Tests.{bit-at-most}
 use Rattle.voxels.specs.Voxel.{shows}
 use Rattle.voxels.specs.Visible.{offsetIndex}
 use Rattle.voxels.specs.Loop.{looped, stepBy, summed, stand, onBy, inStep}
 use Rattle.voxels.specs.Inner.{keptIf}
 use Rattle.voxels.proofs.Loops.{onward-by, onward-both, sums-join, loop-parts, loop-more, loop-length, sum-at-most}
-use Rattle.simple.specs.Inner.{showsAt, voxelQuad, rowQuads, sliceQuads, slicesQuads, shownAt, rowShown, sliceShown, slicesShown, RowReady}
+use Rattle.simple.specs.declared.rows.Rows.{Rows}
+use Rattle.simple.specs.declared.rows.Slices.{Slices}
+use Rattle.simple.specs.Ready.{showsAt, RowReady, RowsReady, reach}
+use Rattle.simple.specs.Count.{shownAt, rowShown, rowsShown, slicesShown}
+use Rattle.simple.specs.List.{voxelQuad, rowQuads, rowsQuads, slicesQuads}
 use Rattle.simple.proofs.Neighbours.{beyond-at}
 
 -- ---- a run and its rows
@@ -43,20 +47,24 @@ module _ (vs : List ℕ) (o : ℕ) where
   unfolding rowShown
   row-at-most wide i = omega (arith, sum-at-most (stepBy 1) (shownAt vs o) 1 wide i voxel-at-most, mul-one wide)
 
-  -- a slice,
-  pub slice-at-most : (wide d high i : ℕ) → sliceShown vs o wide d high i ≤ high * wide
-  unfolding sliceShown
-  slice-at-most wide d high i = sum-at-most (stepBy d) (rowShown vs o wide) wide high i (row-at-most wide)
+  -- rows,
+  pub rows-at-most : (rows : Rows) (i : ℕ) → rowsShown vs o rows i ≤ rows .high * rows .wide
+  unfolding rowsShown
+  rows-at-most rows i = sum-at-most (stepBy (rows .stride .0)) (rowShown vs o (rows .wide)) (rows .wide) (rows .high) i (row-at-most (rows .wide))
 
-  -- and all slices.
-  pub slices-at-most : (wide d high e deep i : ℕ) → slicesShown vs o wide d high e deep i ≤ deep * (high * wide)
+  -- which is no more than they reach over,
+  pub rows-reach : {lent : List ℕ} {offset j : ℕ} {rows : Rows} → RowsReady lent offset j rows → (i : ℕ) → rowsShown vs o rows i ≤ reach rows
+  rows-reach {rows = rows} ready i = omega (arith, rows-at-most rows i, mul-le-mul-left {m = rows .wide} {n = rows .stride .0} (rows .high) (ready .steps .apart))
+
+  -- and slices.
+  pub slices-at-most : (slices : Slices) (i : ℕ) → slicesShown vs o slices i ≤ slices .deep * (slices .rows .high * slices .rows .wide)
   unfolding slicesShown
-  slices-at-most wide d high e deep i = sum-at-most (stepBy e) (sliceShown vs o wide d high) (high * wide) deep i (slice-at-most wide d high)
+  slices-at-most slices i = sum-at-most (stepBy (slices .stride .0)) (rowsShown vs o (slices .rows)) (slices .rows .high * slices .rows .wide) (slices .deep) i (rows-at-most (slices .rows))
 
   -- One more voxel of a row, whose neighbour is as far from the first's.
-  pub row-next : {lent i wide j : ℕ} → RowReady lent o i wide → j ≡ offsetIndex i o → (k : ℕ) → k < wide → {c s : ℕ} → c ≡ rowShown vs o k i → s ≡ bit (shows (getD vs (i + k) 0) (getD vs (j + k) 0)) → c + s ≡ rowShown vs o (k + 1) i
+  pub row-next : {i wide j : ℕ} → RowReady vs o i wide → j ≡ offsetIndex i o → (k : ℕ) → k < wide → {c s : ℕ} → c ≡ rowShown vs o k i → s ≡ bit (shows (getD vs (i + k) 0) (getD vs (j + k) 0)) → c + s ≡ rowShown vs o (k + 1) i
   unfolding rowShown shownAt showsAt
-  row-next {lent} {i} {wide} ready at-j k h is e = rw (is, e, loop-more sums-join (stepBy 1) (shownAt vs o) k i, onward-by 1 i k, mul-one k, at-j, beyond-at lent o i wide ready k h)
+  row-next {i} {wide} ready at-j k h is e = rw (is, e, loop-more sums-join (stepBy 1) (shownAt vs o) k i, onward-by 1 i k, mul-one k, at-j, beyond-at vs o i wide ready k h)
 
 -- ---- how many quads are listed
 
@@ -71,21 +79,21 @@ kept-length false a = refl
 
 module _ (vs : List ℕ) (o : ℕ) where
   -- Of a voxel,
-  pub voxel-length : (y z x i : ℕ) → length (voxelQuad vs o y z x i) ≡ shownAt vs o i
+  pub voxel-length : (p : Point) (i : ℕ) → length (voxelQuad vs o p i) ≡ shownAt vs o i
   unfolding voxelQuad shownAt
-  voxel-length y z x i = kept-length (showsAt vs o i) (at x y z)
+  voxel-length p i = kept-length (showsAt vs o i) p
 
   -- a row,
-  pub row-length : (x wide z y i : ℕ) → length (rowQuads vs o x wide z y i) ≡ rowShown vs o wide i
+  pub row-length : (wide : ℕ) (p : Point) (i : ℕ) → length (rowQuads vs o wide p i) ≡ rowShown vs o wide i
   unfolding rowQuads rowShown
-  row-length x wide z y i = in-step-length 1 (voxelQuad vs o y z) (shownAt vs o) (voxel-length y z) wide x i
+  row-length wide p i = in-step-length 1 _ (shownAt vs o) (λ x. voxel-length (at x (p .y) (p .z))) wide (p .x) i
 
-  -- a slice
-  pub slice-length : (x wide y d high z i : ℕ) → length (sliceQuads vs o x wide y d high z i) ≡ sliceShown vs o wide d high i
-  unfolding sliceQuads sliceShown
-  slice-length x wide y d high z i = in-step-length d (rowQuads vs o x wide z) (rowShown vs o wide) (row-length x wide z) high y i
+  -- rows
+  pub rows-length : (rows : Rows) (p : Point) (i : ℕ) → length (rowsQuads vs o rows p i) ≡ rowsShown vs o rows i
+  unfolding rowsQuads rowsShown
+  rows-length rows p i = in-step-length (rows .stride .0) _ (rowShown vs o (rows .wide)) (λ y. row-length (rows .wide) (at (p .x) y (p .z))) (rows .high) (p .y) i
 
-  -- and all slices.
-  pub slices-length : (x wide y d high z e deep i : ℕ) → length (slicesQuads vs o x wide y d high z e deep i) ≡ slicesShown vs o wide d high e deep i
+  -- and slices.
+  pub slices-length : (slices : Slices) (p : Point) (i : ℕ) → length (slicesQuads vs o slices p i) ≡ slicesShown vs o slices i
   unfolding slicesQuads slicesShown
-  slices-length x wide y d high z e deep i = in-step-length e (sliceQuads vs o x wide y d high) (sliceShown vs o wide d high) (slice-length x wide y d high) deep z i
+  slices-length slices p i = in-step-length (slices .stride .0) _ (rowsShown vs o (slices .rows)) (λ z. rows-length (slices .rows) (at (p .x) (p .y) z)) (slices .deep) (p .z) i

@@ -3,5 +3,11 @@
 pub mod Unit
 -- What a call leaves, for its reader.
 pub mod Call
--- For private contracts alone:
-pub mod Inner
+-- For private contracts alone: what the loops read, and what those over rows and slices ask for,
+pub mod Ready
+-- what is counted (src/count.rt),
+pub mod Count
+-- what is listed (src/list.rt),
+pub mod List
+-- and what stands before and between the two (src/lib.rt).
+pub mod Kernel

@@ -4,22 +4,19 @@
 // in one lent output, so a pass before it counts the quads of each face; after that it is known where
 // each group begins, and the Rust's pass writes to six places of the output.
 ghost use mathlib.Core.Path.{_≡_};
-ghost use Prim.Native.Nat.{_<_};
 ghost use lib.ListN.{length};
 ghost use Rattle.geometry.specs.Refusal.{accepted};
 ghost use Rattle.voxels.specs.Shape.{field};
-ghost use Rattle.voxels.specs.Inner.{Entered, SoundAround};
-ghost use Rattle.listing.specs.Listing as rule;
-ghost use Rattle.listing.specs.Pushed.{MadeGroups};
 ghost use Rattle.listing.specs.Outcome.{outcome};
-ghost use Rattle.rules.specs.Unit.{unitGroups};
-ghost use Rattle.simple.specs.Unit.{unitNumbers, numbersOf, unitFrom, visibleBlockFaces};
-ghost use Rattle.simple.specs.Inner.{Room, kernelStride, KernelOf, Starts};
+ghost use Rattle.simple.specs.Unit.{unitFrom, visibleBlockFaces};
+ghost use Rattle.simple.specs.Ready.{Room};
+ghost use Rattle.simple.specs.Kernel.{Meshable, kernelStride, KernelOf, Starts, GroupsMade};
 
 mod count;
 mod list;
+mod rows;
 
-use geometry::axis::Axis;
+use crate::rows::Slices;
 use geometry::face::OrientedBlockFace;
 use geometry::vector::UVec3;
 use listing::MeshAnswer;
@@ -80,58 +77,25 @@ struct Meshed {
 fn mesh_faces(
     voxels: &[u16],
     out: &mut [u32],
-    capacity: usize,
     voxels_shape: UVec3,
     interior: Extent,
     faces: [OrientedBlockFace; 6],
 ) -> Meshed
-    requires { ⌜ capacity ≡ rule.capacity unitNumbers (length (now out)) ⌝ }
-    requires { ⌜ Entered (length (now voxels)) «voxels_shape» interior ⌝ }
-    requires { ⌜ SoundAround (now voxels) «voxels_shape» interior ⌝ }
-    ensures { λ r. ⌜ MadeGroups unitNumbers numbersOf (unitGroups interior (field «voxels_shape» (now (voxels .entry))) faces) (now (out .entry)) (now (out .exit)) (r .listed) (r .counts) ⌝ }
+    requires { ⌜ Meshable (now voxels) «voxels_shape» interior ⌝ }
+    ensures { λ r. ⌜ GroupsMade (now (voxels .entry)) «voxels_shape» interior faces (now (out .entry)) (now (out .exit)) r ⌝ }
 {
     let strides = kernel_strides(voxels_shape, faces);
-    let y_stride = Stride::new(voxels_shape, Axis::Y);
-    let z_stride = Stride::new(voxels_shape, Axis::Z);
     let minimum = interior.minimum;
-    let bound = interior.bound;
-    let start = VoxelIndex::linearize(voxels_shape, minimum);
-    let wide = bound.x - minimum.x;
-    let high = bound.y - minimum.y;
-    let deep = bound.z - minimum.z;
+    let at = VoxelIndex::linearize(voxels_shape, minimum);
+    let slices = Slices::new(voxels_shape, interior);
     let mut counts = [0u64; 6];
-    count::count_slices(
-        voxels,
-        strides,
-        &mut counts,
-        start,
-        wide,
-        y_stride,
-        high,
-        z_stride,
-        deep,
-    );
+    count::count_slices(voxels, strides, &mut counts, at, slices);
     let mut cursors = [0usize; 6];
     let listed = run_starts(&mut cursors, &counts);
     if listed == 0 {
         return Meshed { listed, counts };
     }
-    list::list_slices(
-        voxels,
-        out,
-        capacity,
-        strides,
-        &mut cursors,
-        start,
-        minimum.x,
-        wide,
-        minimum.y,
-        y_stride,
-        high,
-        minimum.z,
-        z_stride,
-        deep,
-    );
+    list::list_slices(voxels, out, strides, &mut cursors, slices, at, minimum);
     Meshed { listed, counts }
 }
 
@@ -143,12 +107,11 @@ fn mesh(
     faces: [OrientedBlockFace; 6],
     out: &mut [u32],
 ) -> MeshAnswer
-    requires { ⌜ Entered (length (now voxels)) «voxels_shape» interior ⌝ }
-    requires { ⌜ SoundAround (now voxels) «voxels_shape» interior ⌝ }
+    requires { ⌜ Meshable (now voxels) «voxels_shape» interior ⌝ }
     ensures { λ r. ⌜ outcome r (now (out .exit)) ≡ unitFrom (accepted tt) interior (field «voxels_shape» (now (voxels .entry))) faces (now (out .entry)) ⌝ }
 {
     let capacity = out.len() / 3;
-    let meshed = mesh_faces(voxels, out, capacity, voxels_shape, interior, faces);
+    let meshed = mesh_faces(voxels, out, voxels_shape, interior, faces);
     let counts = meshed.counts;
     listing::answered(meshed.listed, capacity, counts)
 }

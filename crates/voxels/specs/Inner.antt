@@ -2,7 +2,7 @@
 use mathlib.Core.Bool.{Bool, true, false}
 use mathlib.Core.List.{List, [], _∷_, _++_}
 use mathlib.Core.Path.{_≡_}
-use Prim.Native.Nat.{ℕ, _+_, _*_, _≤_, _<_}
+use Prim.Native.Nat.{ℕ, _+_, _-_, _*_, _≤_, _<_}
 use lib.ListN.{getD}
 use Rattle.geometry.specs.declared.axis.Axis.{Axis}
 use Rattle.geometry.specs.Point.{Point, along}
@@ -36,6 +36,21 @@ pub record Entered (lent : ℕ) (shape : Point) (inner : Extent) : Type 0 where
   pub max : Point
   pub is : inner ≡ interior min max
   pub held : Held shape lent min max
+
+-- An extent is the interior of such a box, whatever was lent.
+pub record Interior (shape : Point) (inner : Extent) : Type 0 where
+  pub lent : ℕ
+  pub entered : Entered lent shape inner
+
+-- How far an extent reaches along each axis.
+abbrev pub wideOf : Extent → ℕ
+wideOf e = e .bound .x - e .minimum .x
+
+abbrev pub highOf : Extent → ℕ
+highOf e = e .bound .y - e .minimum .y
+
+abbrev pub deepOf : Extent → ℕ
+deepOf e = e .bound .z - e .minimum .z
 
 -- A point lies in the box around an interior, which is a voxel wider on each side.
 abbrev pub Around : Extent → Point → Type 0

@@ -11,12 +11,11 @@ use Rattle.simple.proofs.mesh.Statement.{statement}
 use Rattle.simple.proofs.mesh.Tie as tie
 
 -- What the groups left, once they are answered.
-abbrev meshed : tie.After-answered → tie.After-mesh-faces
-meshed c = c .before .before .before .before
+abbrev meshing : tie.After-answered → tie.After-mesh-faces
+meshing c = c .before .before .before .before
 
 mesh-faces-requires : tie.Need-mesh-faces-requires
-unfolding capacity
-mesh-faces-requires c κs = (refl, c .before .before .before .pre)
+mesh-faces-requires c κs = c .before .before .before .pre
 
 answered-requires : tie.Need-answered-requires
 answered-requires c κs = search needs
@@ -26,7 +25,7 @@ same-length c = search needs
 
 returns : tie.Need-returns
 unfolding capacity unitFrom listedAfter
-returns c = made-outcome unitNumbers numbersOf (omega arith) three (meshed c .mesh-faces .ensures) refl (c .answered .ensures)
+returns c = made-outcome unitNumbers numbersOf (omega arith) three (meshing c .mesh-faces .ensures) refl (c .answered .ensures)
 
 pub mesh-spec : {M : Type 1} → statement M
 mesh-spec = tie.close (tie.spec mesh-faces-requires answered-requires same-length returns)
