@@ -212,14 +212,10 @@ fn scan_slice(
     requires { ⌜ SliceScan (length (now voxels)) (length (now visited)) scan slice (start .0) ⌝ }
     ensures { λ r. ⌜ SliceScanned (now (voxels .entry)) scan slice (start .0) (progress (now (visited .entry)) (now (out .entry)) before) (progress (now (visited .exit)) (now (out .exit)) r) ⌝ }
 {
-    let span = scan.rows;
-    let step = span.stride.0;
-    let count = span.count;
-    let from = span.start;
     let mut reached = before;
     let mut k: u32 = 0;
     let mut i = start.0;
-    while k < count {
+    while k < scan.rows.count {
         reached = scan_row(
             voxels,
             visited,
@@ -227,11 +223,11 @@ fn scan_slice(
             reached,
             scan,
             slice,
-            from + k,
+            scan.rows.start + k,
             VoxelIndex(i),
         );
         k += 1;
-        i += step;
+        i += scan.rows.stride.0;
     }
     reached
 }
@@ -249,17 +245,21 @@ fn scan_slices(
     requires { ⌜ SlicesScan (length (now voxels)) (length (now visited)) scan (start .0) ⌝ }
     ensures { λ r. ⌜ SlicesScanned (now (voxels .entry)) scan (start .0) (progress (now (visited .entry)) (now (out .entry)) before) (progress (now (visited .exit)) (now (out .exit)) r) ⌝ }
 {
-    let span = scan.slices;
-    let step = span.stride.0;
-    let count = span.count;
-    let from = span.start;
     let mut reached = before;
     let mut k: u32 = 0;
     let mut i = start.0;
-    while k < count {
-        reached = scan_slice(voxels, visited, out, reached, scan, from + k, VoxelIndex(i));
+    while k < scan.slices.count {
+        reached = scan_slice(
+            voxels,
+            visited,
+            out,
+            reached,
+            scan,
+            scan.slices.start + k,
+            VoxelIndex(i),
+        );
         k += 1;
-        i += step;
+        i += scan.slices.stride.0;
     }
     reached
 }
