@@ -99,25 +99,27 @@ fn lay_quad(
     let axes = scan.axes;
     let u = axes.u;
     let v = axes.v;
-    let bound = scan.bound;
-    let u_stride = scan.u_stride;
-    let v_stride = scan.v_stride;
-    let max_width = u.coordinate(bound) - u.coordinate(minimum);
-    let max_height = v.coordinate(bound) - v.coordinate(minimum);
+    let max_width = u.coordinate(scan.bound) - u.coordinate(minimum);
+    let max_height = v.coordinate(scan.bound) - v.coordinate(minimum);
     let quad = merge_strategy::find_quad(
         voxels,
         visited,
         min_index,
         max_width,
         max_height,
-        u_stride,
-        v_stride,
+        scan.u_stride,
+        scan.v_stride,
         scan.visibility_offset,
     );
-    let width = quad.width;
-    let height = quad.height;
-    visited::mark_quad(visited, min_index, u_stride, width, v_stride, height);
-    let listed = push(out, before.listed, minimum, width, height);
+    visited::mark_quad(
+        visited,
+        min_index,
+        scan.u_stride,
+        quad.width,
+        scan.v_stride,
+        quad.height,
+    );
+    let listed = push(out, before.listed, minimum, quad.width, quad.height);
     let tests = before.tests + 1 + quad.tests;
     Progress { listed, tests }
 }
