@@ -165,39 +165,32 @@ fn scan_row(
     ensures { λ r. ⌜ RowScanned (now (voxels .entry)) scan slice row (start .0) (progress (now (visited .entry)) (now (out .entry)) before) (progress (now (visited .exit)) (now (out .exit)) r) ⌝ }
 {
     let span = scan.row;
-    let step = span.stride.0;
-    let count = span.count;
-    let from = span.start;
-    let mut listed = before.listed;
-    let mut tests = before.tests;
+    let mut reached = before;
     let mut k: u32 = 0;
     let mut i = start.0;
-    while k < count {
+    while k < span.count {
         let passed = idle(
             voxels,
             visited,
             scan.visibility_offset,
             VoxelIndex(i),
             span.stride,
-            count - k,
+            span.count - k,
         );
-        tests += passed as u64;
+        reached.tests += passed as u64;
         k += passed;
-        i += passed * step;
-        if k == count {
-            return Progress { listed, tests };
+        i += passed * span.stride.0;
+        if k == span.count {
+            return reached;
         }
         let axes = scan.axes;
         let n = axes.n;
-        let minimum = face_scan::spot(n, slice, row, from + k);
-        let reached = Progress { listed, tests };
-        let laid = lay_quad(voxels, visited, out, reached, scan, minimum, VoxelIndex(i));
-        listed = laid.listed;
-        tests = laid.tests;
+        let minimum = face_scan::spot(n, slice, row, span.start + k);
+        reached = lay_quad(voxels, visited, out, reached, scan, minimum, VoxelIndex(i));
         k += 1;
-        i += step;
+        i += span.stride.0;
     }
-    Progress { listed, tests }
+    reached
 }
 
 // Scans a slice, row by row.
