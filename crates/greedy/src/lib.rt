@@ -307,7 +307,6 @@ fn mesh_faces(
     let mut tests: u64 = 0;
     let mut k: usize = 0;
     while k < 6 {
-        let face = faces[k];
         let after = greedy_quads_for_face(
             voxels,
             visited,
@@ -316,11 +315,10 @@ fn mesh_faces(
             size,
             voxels_shape,
             interior,
-            face,
+            faces[k],
         );
-        let now = after.listed;
-        counts[k] = (now - listed) as u64;
-        listed = now;
+        counts[k] = (after.listed - listed) as u64;
+        listed = after.listed;
         tests = after.tests;
         k += 1;
     }
@@ -348,10 +346,9 @@ fn mesh(
     let capacity = out.len() / QUAD_NUMBERS;
     let meshed = mesh_faces(voxels, visited, out, size, voxels_shape, interior, faces);
     visited::clear(visited, size);
-    let listed = meshed.listed;
     let counts = meshed.counts;
-    let mesh = listing::answered(listed, capacity, counts);
-    if capacity < listed {
+    let mesh = listing::answered(meshed.listed, capacity, counts);
+    if capacity < meshed.listed {
         return GreedyAnswer { mesh, tests: 0 };
     }
     GreedyAnswer {
@@ -386,9 +383,16 @@ pub fn greedy_quads(
             GreedyAnswer { mesh, tests: 0 }
         }
         EntryAnswer::Entered(entry) => {
-            let interior = entry.interior;
             let size = entry.size as usize;
-            mesh(voxels, voxels_shape, size, interior, faces, visited, out)
+            mesh(
+                voxels,
+                voxels_shape,
+                size,
+                entry.interior,
+                faces,
+                visited,
+                out,
+            )
         }
     }
 }
