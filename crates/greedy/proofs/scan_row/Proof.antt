@@ -59,6 +59,10 @@ passed c =
 unfinished : (c : tie.After-axes Inv-loop μ-loop) → turn (passing c) .loop .k + passing c .idle .result < entry (turn (passing c)) .args .scan .row .count
 unfinished c = omega (arith, passed (passing c) .at .within, c .before .if2 .left)
 
+-- A turn leaves fewer, since it passes those voxels and one more.
+fewer : (k m n : ℕ) → k + m < n → n - (k + m + 1) < n - k
+fewer k m n h = omega arith
+
 -- ---- the needs
 
 loop-holds : tie.Need-loop-holds Inv-loop μ-loop
@@ -119,7 +123,7 @@ add-i-2 c =
     record { fits = omega (arith, next-fits (passed (passing here) .at) (unfinished here) (ready (entry (turn (passing here))) .last)) }
 
 loop-less : tie.Need-loop-less Inv-loop μ-loop
-loop-less c = omega arith
+loop-less c = fewer _ _ _ (unfinished (needing (c .before .before .before .before .before)))
 
 loop-again : tie.Need-loop-again Inv-loop μ-loop
 loop-again c =
