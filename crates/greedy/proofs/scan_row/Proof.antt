@@ -63,6 +63,10 @@ unfinished c = omega (arith, passed (passing c) .at .within, c .before .if2 .lef
 fewer : (k m n : ℕ) → k + m < n → n - (k + m + 1) < n - k
 fewer k m n h = omega arith
 
+-- What is passed ends before the rest of the row does.
+ahead : (k m n : ℕ) → k + m < n → m < n - k
+ahead k m n h = omega arith
+
 -- ---- the needs
 
 loop-holds : tie.Need-loop-holds Inv-loop μ-loop
@@ -130,7 +134,7 @@ loop-again c =
     let laid = c .before .before .before .before .before in
     let here = needing laid in
     let l = passed (passing here) in
-    scan-on l (unfinished here) (scanned-laid _ _ _ _ _ (l .few) (passing here .idle .ensures .stopped (omega arith)) (rw (laid .before .before .before .spot .ensures) at (laid .lay-quad .ensures))) (laid .lay-quad .kept .1 .0) (laid .lay-quad .kept .1 .1 .0)
+    scan-on l (unfinished here) (scanned-laid _ _ _ _ _ (l .few) (passing here .idle .ensures .stopped (ahead _ _ _ (unfinished here))) (rw (laid .before .before .before .spot .ensures) at (laid .lay-quad .ensures))) (laid .lay-quad .kept .1 .0) (laid .lay-quad .kept .1 .1 .0)
 
 same-length-3 : tie.Need-same-length-3 Inv-loop μ-loop
 same-length-3 c = c .before .before .loop .inv .marks-long
