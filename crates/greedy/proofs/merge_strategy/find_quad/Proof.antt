@@ -59,10 +59,6 @@ quad : (c : tie.After-get-row-width Inv-loop μ-loop) (k t : ℕ) → let a = en
     → pick (c .get-row-width .result .width) (k + 1) t ≡ quadAt (a .voxels .now) (a .visited .now) (a .visibility-offset .0) (a .u-stride .0) (a .v-stride .0) (a .max-width) (a .max-height) (a .min-index .0)
 quad c k t = let a = entry c .args in quad-from (a .voxels .now) (a .visited .now) (a .visibility-offset .0) (a .u-stride .0) (a .v-stride .0) (a .max-width) (a .max-height) (a .min-index .0) (walkedFirst c) k t (c .get-row-width .ensures)
 
--- A turn leaves fewer rows.
-fewer : (k n : ℕ) → k < n → n - (k + 1) < n - k
-fewer k n h = omega arith
-
 -- ---- the needs
 
 cast-first : tie.Need-cast-first Inv-loop μ-loop
@@ -125,7 +121,7 @@ add-i-2 c =
     record { fits = omega (arith, next-fits (turn .before .loop .inv .0) (turn .loop-test .taken) (rows-last _ _ _ _ _ _ _ _ (entry (first (turn .before)) .pre))) }
 
 loop-less : tie.Need-loop-less Inv-loop μ-loop
-loop-less c = fewer _ _ (begun (c .before .before .before) .loop-test .taken)
+loop-less c = omega arith
 
 loop-again : tie.Need-loop-again Inv-loop μ-loop
 loop-again c =
