@@ -99,25 +99,27 @@ fn lay_quad(
     let axes = scan.axes;
     let u = axes.u;
     let v = axes.v;
-    let bound = scan.bound;
-    let u_stride = scan.u_stride;
-    let v_stride = scan.v_stride;
-    let max_width = u.coordinate(bound) - u.coordinate(minimum);
-    let max_height = v.coordinate(bound) - v.coordinate(minimum);
+    let max_width = u.coordinate(scan.bound) - u.coordinate(minimum);
+    let max_height = v.coordinate(scan.bound) - v.coordinate(minimum);
     let quad = merge_strategy::find_quad(
         voxels,
         visited,
         min_index,
         max_width,
         max_height,
-        u_stride,
-        v_stride,
+        scan.u_stride,
+        scan.v_stride,
         scan.visibility_offset,
     );
-    let width = quad.width;
-    let height = quad.height;
-    visited::mark_quad(visited, min_index, u_stride, width, v_stride, height);
-    let listed = push(out, before.listed, minimum, width, height);
+    visited::mark_quad(
+        visited,
+        min_index,
+        scan.u_stride,
+        quad.width,
+        scan.v_stride,
+        quad.height,
+    );
+    let listed = push(out, before.listed, minimum, quad.width, quad.height);
     let tests = before.tests + 1 + quad.tests;
     Progress { listed, tests }
 }
@@ -163,39 +165,32 @@ fn scan_row(
     ensures { λ r. ⌜ RowScanned (now (voxels .entry)) scan slice row (start .0) (progress (now (visited .entry)) (now (out .entry)) before) (progress (now (visited .exit)) (now (out .exit)) r) ⌝ }
 {
     let span = scan.row;
-    let step = span.stride.0;
-    let count = span.count;
-    let from = span.start;
-    let mut listed = before.listed;
-    let mut tests = before.tests;
+    let mut reached = before;
     let mut k: u32 = 0;
     let mut i = start.0;
-    while k < count {
+    while k < span.count {
         let passed = idle(
             voxels,
             visited,
             scan.visibility_offset,
             VoxelIndex(i),
             span.stride,
-            count - k,
+            span.count - k,
         );
-        tests += passed as u64;
+        reached.tests += passed as u64;
         k += passed;
-        i += passed * step;
-        if k == count {
-            return Progress { listed, tests };
+        i += passed * span.stride.0;
+        if k == span.count {
+            return reached;
         }
         let axes = scan.axes;
         let n = axes.n;
-        let minimum = face_scan::spot(n, slice, row, from + k);
-        let reached = Progress { listed, tests };
-        let laid = lay_quad(voxels, visited, out, reached, scan, minimum, VoxelIndex(i));
-        listed = laid.listed;
-        tests = laid.tests;
+        let minimum = face_scan::spot(n, slice, row, span.start + k);
+        reached = lay_quad(voxels, visited, out, reached, scan, minimum, VoxelIndex(i));
         k += 1;
-        i += step;
+        i += span.stride.0;
     }
-    Progress { listed, tests }
+    reached
 }
 
 // Scans a slice, row by row.
@@ -212,14 +207,10 @@ fn scan_slice(
     requires { ⌜ SliceScan (length (now voxels)) (length (now visited)) scan slice (start .0) ⌝ }
     ensures { λ r. ⌜ SliceScanned (now (voxels .entry)) scan slice (start .0) (progress (now (visited .entry)) (now (out .entry)) before) (progress (now (visited .exit)) (now (out .exit)) r) ⌝ }
 {
-    let span = scan.rows;
-    let step = span.stride.0;
-    let count = span.count;
-    let from = span.start;
     let mut reached = before;
     let mut k: u32 = 0;
     let mut i = start.0;
-    while k < count {
+    while k < scan.rows.count {
         reached = scan_row(
             voxels,
             visited,
@@ -227,11 +218,11 @@ fn scan_slice(
             reached,
             scan,
             slice,
-            from + k,
+            scan.rows.start + k,
             VoxelIndex(i),
         );
         k += 1;
-        i += step;
+        i += scan.rows.stride.0;
     }
     reached
 }
@@ -249,17 +240,21 @@ fn scan_slices(
     requires { ⌜ SlicesScan (length (now voxels)) (length (now visited)) scan (start .0) ⌝ }
     ensures { λ r. ⌜ SlicesScanned (now (voxels .entry)) scan (start .0) (progress (now (visited .entry)) (now (out .entry)) before) (progress (now (visited .exit)) (now (out .exit)) r) ⌝ }
 {
-    let span = scan.slices;
-    let step = span.stride.0;
-    let count = span.count;
-    let from = span.start;
     let mut reached = before;
     let mut k: u32 = 0;
     let mut i = start.0;
-    while k < count {
-        reached = scan_slice(voxels, visited, out, reached, scan, from + k, VoxelIndex(i));
+    while k < scan.slices.count {
+        reached = scan_slice(
+            voxels,
+            visited,
+            out,
+            reached,
+            scan,
+            scan.slices.start + k,
+            VoxelIndex(i),
+        );
         k += 1;
-        i += step;
+        i += scan.slices.stride.0;
     }
     reached
 }
@@ -312,7 +307,6 @@ fn mesh_faces(
     let mut tests: u64 = 0;
     let mut k: usize = 0;
     while k < 6 {
-        let face = faces[k];
         let after = greedy_quads_for_face(
             voxels,
             visited,
@@ -321,11 +315,10 @@ fn mesh_faces(
             size,
             voxels_shape,
             interior,
-            face,
+            faces[k],
         );
-        let now = after.listed;
-        counts[k] = (now - listed) as u64;
-        listed = now;
+        counts[k] = (after.listed - listed) as u64;
+        listed = after.listed;
         tests = after.tests;
         k += 1;
     }
@@ -353,10 +346,9 @@ fn mesh(
     let capacity = out.len() / QUAD_NUMBERS;
     let meshed = mesh_faces(voxels, visited, out, size, voxels_shape, interior, faces);
     visited::clear(visited, size);
-    let listed = meshed.listed;
     let counts = meshed.counts;
-    let mesh = listing::answered(listed, capacity, counts);
-    if capacity < listed {
+    let mesh = listing::answered(meshed.listed, capacity, counts);
+    if capacity < meshed.listed {
         return GreedyAnswer { mesh, tests: 0 };
     }
     GreedyAnswer {
@@ -391,9 +383,16 @@ pub fn greedy_quads(
             GreedyAnswer { mesh, tests: 0 }
         }
         EntryAnswer::Entered(entry) => {
-            let interior = entry.interior;
             let size = entry.size as usize;
-            mesh(voxels, voxels_shape, size, interior, faces, visited, out)
+            mesh(
+                voxels,
+                voxels_shape,
+                size,
+                entry.interior,
+                faces,
+                visited,
+                out,
+            )
         }
     }
 }

@@ -17,7 +17,7 @@ start c = c .before .before .before .before
 
 -- Where the call was meshed, back to its entry.
 abbrev entered : tie.After-mesh → tie.After-entry
-entered c = c .before .before .before .before .before .before
+entered c = c .before .before .before .before .before
 
 -- ---- the needs
 
@@ -38,7 +38,7 @@ cast-size c = search needs
 
 mesh-requires : tie.Need-mesh-requires
 mesh-requires c κs =
-    let given = c .before .before .before .before .before in
+    let given = c .before .before .before .before in
     let a = start (checks given) .args in
     let enters = sym (checks given .enter-greedy .ensures) ∙ ap entryMeaning (given .entry .given .1) in
     (size-is (a .voxels .now) (a .voxels-shape) (a .min) (a .max) (a .faces) (a .visited .now) _ enters, is-accepted (a .voxels .now) (a .voxels-shape) (a .min) (a .max) (a .faces) (a .visited .now) _ enters)

@@ -23,7 +23,7 @@ abbrev measured : tie.After-find-quad → tie.After-coordinate4
 measured c = c .before .before
 
 abbrev entry : tie.After-coordinate4 → tie.Start
-entry c = c .before .before .before .before .before .before .before .before .before .before .before
+entry c = c .before .before .before .before .before .before .before .before
 
 -- ---- what is known there
 

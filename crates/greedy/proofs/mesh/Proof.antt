@@ -42,7 +42,7 @@ same-length-2 c = search needs
 returns : tie.Need-returns
 unfolding capacity
 returns c =
-    let done = c .before in
+    let done = c .before .before in
     many-left (meshing (clearing done) .mesh-faces .ensures) (entry (meshing (clearing done)) .pre .0) refl (done .answered .ensures) (clearing done .clear .ensures) (c .if1 .taken)
 
 same-length-3 : tie.Need-same-length-3
@@ -54,7 +54,7 @@ same-length-4 c = search needs
 returns-2 : tie.Need-returns-2
 unfolding capacity
 returns-2 c =
-    let done = c .before in
+    let done = c .before .before in
     all-left (meshing (clearing done) .mesh-faces .ensures) (entry (meshing (clearing done)) .pre .0) refl (done .answered .ensures) (clearing done .clear .ensures) (c .if1 .left)
 
 pub mesh-spec : {M : Type 1} → statement M

@@ -22,11 +22,11 @@ entry c = c .before .before .before .before .before
 loop-holds : tie.Need-loop-holds Inv-loop μ-loop
 loop-holds c = six-start (c .before .before .before .good .1 .1 .1 .1 .1 .1 .0 .1 .0 .1)
 
-mul-face : tie.Need-mul-face Inv-loop μ-loop
-mul-face c = search needs
+mul-greedy-quads-for-face : tie.Need-mul-greedy-quads-for-face Inv-loop μ-loop
+mul-greedy-quads-for-face c = search needs
 
-array-copy-out-face : tie.Need-array-copy-out-face Inv-loop μ-loop
-array-copy-out-face c = search needs
+array-copy-out-greedy-quads-for-face : tie.Need-array-copy-out-greedy-quads-for-face Inv-loop μ-loop
+array-copy-out-greedy-quads-for-face c = search needs
 
 greedy-quads-for-face-requires : tie.Need-greedy-quads-for-face-requires Inv-loop μ-loop
 greedy-quads-for-face-requires c κs =
@@ -36,7 +36,7 @@ greedy-quads-for-face-requires c κs =
     ((h .0, six-room l (turn .loop-test .taken)), record { entered = h .1 .entered; marked = rw (l .marks-long) (h .1 .marked) })
 
 sub-counts : tie.Need-sub-counts Inv-loop μ-loop
-sub-counts c = let made = c .before .before .before .before in let more = six-more (begun made .before .loop .inv) (made .greedy-quads-for-face .ensures) in omega arith
+sub-counts c = let made = c .before .before .before .before .before in let more = six-more (begun made .before .loop .inv) (made .greedy-quads-for-face .ensures) in omega arith
 
 mul-counts : tie.Need-mul-counts Inv-loop μ-loop
 mul-counts c = search needs
@@ -52,7 +52,7 @@ loop-less c = omega arith
 
 loop-again : tie.Need-loop-again Inv-loop μ-loop
 loop-again c =
-    let made = c .before .before .before .before in
+    let made = c .before .before .before .before .before in
     six-on (begun made .before .loop .inv) (made .greedy-quads-for-face .ensures) (begun made .loop-test .taken) (made .greedy-quads-for-face .kept .1 .0) (made .greedy-quads-for-face .kept .1 .1 .0)
 
 same-length : tie.Need-same-length Inv-loop μ-loop
@@ -71,8 +71,8 @@ mesh-faces-spec =
     Inv-loop
     μ-loop
     loop-holds
-    mul-face
-    array-copy-out-face
+    mul-greedy-quads-for-face
+    array-copy-out-greedy-quads-for-face
     greedy-quads-for-face-requires
     sub-counts
     mul-counts
