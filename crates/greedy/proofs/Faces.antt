@@ -15,7 +15,7 @@ use Rattle.geometry.proofs.Frame.{frame}
 use Rattle.voxels.specs.Shape.{size, index, stride}
 use Rattle.voxels.specs.Extent.{Inside}
 use Rattle.voxels.specs.Visible.{modulus, visibilityOffset}
-use Rattle.voxels.specs.Inner.{mostVoxels, Entered}
+use Rattle.voxels.specs.Entered.{mostVoxels, Entered}
 use Rattle.voxels.proofs.Places.{index-below}
 use Rattle.voxels.proofs.Entered.{below, entered-stride, minimum-index, bound-within, bound-small, inner-in-shape, inner-beyond}
 use Rattle.listing.specs.Listing.{overwritten}

@@ -7,7 +7,7 @@ use native.Mathlib.Nat.{add-zero, zero-mul, suc-mul, mul-le-mul-right}
 use native.Mathlib.Omega.{arith}
 use lib.ListN.{getD}
 use Rattle.geometry.specs.Point.{Point}
-use Rattle.voxels.specs.Inner.{longest}
+use Rattle.voxels.specs.Entered.{longest}
 use Rattle.voxels.specs.Loop.{stepBy}
 use Rattle.rules.specs.Group.{Pick}
 use Rattle.rules.specs.Merger.{Walked, walked}

@@ -12,7 +12,7 @@ use Rattle.geometry.specs.declared.face.OrientedBlockFace.{OrientedBlockFace}
 use Rattle.geometry.specs.Point.{Point}
 use Rattle.voxels.specs.declared.extent.Extent.{Extent}
 use Rattle.voxels.specs.Shape.{size, Field, field}
-use Rattle.voxels.specs.Inner.{mostVoxels}
+use Rattle.voxels.specs.Entered.{mostVoxels}
 use Rattle.listing.specs.Listing.{joined}
 use Rattle.listing.specs.Pushed.{output, pushedAll}
 use Rattle.listing.proofs.Groups.{take-next, all-after, groups-next, counts-next, groups-done, counts-done}

@@ -14,7 +14,7 @@ use Rattle.geometry.proofs.Refusals.{split}
 use Rattle.voxels.specs.Shape.{size, index, stride, Field, field}
 use Rattle.voxels.specs.Extent.{Inside, upTo, scan}
 use Rattle.voxels.specs.Loop.{looped, stepBy, every, Stand, stand, onBy, andNext, steps}
-use Rattle.voxels.specs.Inner.{Entered}
+use Rattle.voxels.specs.Entered.{Entered}
 use Rattle.voxels.proofs.Places.{index-at, index-below}
 use Rattle.voxels.proofs.Loops.{onward-by, onward-both, loops-agree, loops-same}
 use Rattle.voxels.proofs.Scan.{inside-at}

@@ -18,7 +18,7 @@ use Rattle.voxels.specs.Loop.{stepBy}
 use Rattle.voxels.specs.Shape.{size, index, stride, Field, field}
 use Rattle.voxels.specs.Extent.{Inside}
 use Rattle.voxels.specs.Visible.{visible}
-use Rattle.voxels.specs.Inner.{Entered}
+use Rattle.voxels.specs.Entered.{Entered}
 use Rattle.voxels.proofs.Places.{index-moved, index-below, one-point}
 use Rattle.voxels.proofs.Steps.{inside-moved}
 use Rattle.voxels.proofs.Entered.{inner-in-shape, inner-offset}

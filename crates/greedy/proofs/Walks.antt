@@ -12,7 +12,7 @@ use Rattle.geometry.proofs.Refusals.{split}
 use Rattle.voxels.specs.Voxel.{class, shows, uniform}
 use Rattle.voxels.specs.Visible.{offsetIndex}
 use Rattle.voxels.specs.Loop.{stepBy}
-use Rattle.voxels.specs.Inner.{mostVoxels}
+use Rattle.voxels.specs.Entered.{mostVoxels}
 use Rattle.voxels.proofs.Loops.{more, done, Underway}
 use Rattle.rules.specs.Merger.{Walked, walk, pick, walked, walkedRows}
 use Rattle.rules.proofs.Walks.{after, afterRows, walk-passes, walk-fails, rows-whole, rows-broken, walked-at-most}

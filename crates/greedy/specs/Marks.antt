@@ -2,7 +2,7 @@
 use mathlib.Core.List.{List}
 use Prim.Native.Nat.{ℕ, _+_, _*_, _≤_, _<_}
 use lib.ListN.{set}
-use Rattle.voxels.specs.Inner.{mostVoxels}
+use Rattle.voxels.specs.Entered.{mostVoxels}
 use Rattle.voxels.specs.Loop.{steps}
 
 -- What a loop by a coordinate and an index asks for: something at each of them, and that both fit.

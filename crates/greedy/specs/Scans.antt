@@ -9,7 +9,7 @@ use Rattle.geometry.specs.declared.face.OrientedBlockFace.{OrientedBlockFace}
 use Rattle.geometry.specs.Point.{Point, along}
 use Rattle.voxels.specs.Shape.{size, stride, field}
 use Rattle.voxels.specs.Visible.{modulus}
-use Rattle.voxels.specs.Inner.{mostVoxels, longest, Entered}
+use Rattle.voxels.specs.Entered.{mostVoxels, longest, Entered}
 use Rattle.voxels.specs.Loop.{steps}
 use Rattle.listing.specs.Pushed.{Output, output, pushed, pushedAll, MadeGroups}
 use Rattle.rules.specs.Group.{Pick, quadOf}

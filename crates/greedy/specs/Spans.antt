@@ -7,7 +7,6 @@ use Rattle.geometry.specs.Point.{Point, at, along}
 use Rattle.geometry.specs.Axes.{positive, axesOf, nAxis, uAxis, vAxis}
 use Rattle.voxels.specs.Shape.{stride}
 use Rattle.voxels.specs.Visible.{visibilityOffset}
-use Rattle.voxels.specs.Inner.{Entered}
 use Rattle.voxels.specs.declared.extent.Extent.{Extent}
 use Rattle.greedy.specs.declared.face_scan.Span.{Span}
 use Rattle.greedy.specs.declared.face_scan.FaceScan.{FaceScan}
@@ -29,11 +28,6 @@ unfoldable pub spot : Axis → ℕ → ℕ → ℕ → Point
 spot X k j i = at k i j
 spot Y k j i = at i k j
 spot Z k j i = at i j k
-
--- An extent is the interior of a box that passed the entry checks, whatever was lent.
-pub record Interior (shape : Point) (inner : Extent) : Type 0 where
-  pub lent : ℕ
-  pub entered : Entered lent shape inner
 
 -- The span of an extent along an axis.
 unfoldable pub spanOf : Point → Extent → Axis → Span

@@ -9,7 +9,7 @@ ghost use mathlib.Core.Path.{_≡_};
 ghost use Prim.Native.Nat.{_+_, _*_, _<_, _≤_};
 ghost use lib.ListN.{length};
 ghost use Rattle.geometry.specs.Refusal.{accepted};
-ghost use Rattle.voxels.specs.Inner.{mostVoxels};
+ghost use Rattle.voxels.specs.Entered.{mostVoxels};
 ghost use Rattle.listing.specs.Pushed.{output, pushed};
 ghost use Rattle.greedy.specs.Greedy.{quadNumbers, numbersOf, listed, outcome, greedyFrom, greedyQuads};
 ghost use Rattle.greedy.specs.Walks.{Touches, needsAt, WalkReady, Idle};

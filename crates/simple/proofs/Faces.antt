@@ -14,7 +14,8 @@ use Rattle.geometry.specs.Axes.{positive, nAxis}
 use Rattle.voxels.specs.Shape.{size, index, stride, InShape, field}
 use Rattle.voxels.specs.Extent.{interior, scan}
 use Rattle.voxels.specs.Visible.{modulus, stepped, visible, visibilityOffset, offsetIndex}
-use Rattle.voxels.specs.Inner.{mostVoxels, Held, SoundAround, kept, wideOf, highOf, deepOf}
+use Rattle.voxels.specs.Entered.{mostVoxels, Held, SoundAround, wideOf, highOf, deepOf}
+use Rattle.voxels.specs.Rows.{kept}
 use Rattle.voxels.proofs.Places.{index-at, index-below}
 use Rattle.voxels.proofs.Scan.{those-gathered, gathered-scan, every-in-step, inside-at}
 use Rattle.voxels.proofs.Held.{axis-small}

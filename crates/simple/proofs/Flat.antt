@@ -9,7 +9,7 @@ use borrow.Author.Tests.{ltb-true, ltb-false}
 use lib.ListN.{length, replicate}
 use Rattle.geometry.proofs.Refusals.{split}
 use Rattle.voxels.specs.Visible.{offsetIndex}
-use Rattle.voxels.specs.Inner.{mostVoxels, longest}
+use Rattle.voxels.specs.Entered.{mostVoxels, longest}
 use Rattle.voxels.specs.declared.index.Stride.{Stride}
 use Rattle.simple.specs.declared.rows.Rows.{Rows}
 use Rattle.simple.specs.Ready.{offsetOf, RowReady, NoneBad, RowsReady, reach}

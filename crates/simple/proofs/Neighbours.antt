@@ -10,7 +10,7 @@ use borrow.Author.Tests.{lt-ltb, le-ltb}
 use Rattle.geometry.specs.Axes.{bit}
 use Rattle.voxels.specs.Voxel.{mergeValues, class, shows}
 use Rattle.voxels.specs.Visible.{offsetIndex}
-use Rattle.voxels.specs.Inner.{mostVoxels, longest}
+use Rattle.voxels.specs.Entered.{mostVoxels, longest}
 use Rattle.voxels.proofs.Voxels.{shows-below}
 use Rattle.simple.specs.Ready.{showsAt, VoxelReady, RowReady}
 

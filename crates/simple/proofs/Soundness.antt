@@ -11,7 +11,7 @@ use Rattle.voxels.specs.declared.extent.Extent.{Extent}
 use Rattle.voxels.specs.Voxel.{class}
 use Rattle.voxels.specs.Shape.{index, stride}
 use Rattle.voxels.specs.Extent.{interior}
-use Rattle.voxels.specs.Inner.{Held, SoundAround, wideOf, highOf, deepOf}
+use Rattle.voxels.specs.Entered.{Held, SoundAround, wideOf, highOf, deepOf}
 use Rattle.voxels.proofs.Places.{index-at}
 use Rattle.simple.specs.Ready.{NoneBad}
 

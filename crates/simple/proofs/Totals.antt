@@ -12,7 +12,7 @@ use Rattle.geometry.proofs.Tests.{bit-at-most}
 use Rattle.voxels.specs.Voxel.{shows}
 use Rattle.voxels.specs.Visible.{offsetIndex}
 use Rattle.voxels.specs.Loop.{looped, stepBy, summed, stand, onBy, inStep}
-use Rattle.voxels.specs.Inner.{keptIf}
+use Rattle.voxels.specs.Rows.{keptIf}
 use Rattle.voxels.proofs.Loops.{onward-by, onward-both, sums-join, loop-parts, loop-more, loop-length, sum-at-most}
 use Rattle.simple.specs.declared.rows.Rows.{Rows}
 use Rattle.simple.specs.declared.rows.Slices.{Slices}

@@ -15,7 +15,7 @@ use Rattle.voxels.specs.declared.extent.Extent.{Extent}
 use Rattle.voxels.specs.declared.index.Stride.{Stride}
 use Rattle.voxels.specs.Shape.{index, field}
 use Rattle.voxels.specs.Visible.{modulus}
-use Rattle.voxels.specs.Inner.{mostVoxels}
+use Rattle.voxels.specs.Entered.{mostVoxels}
 use Rattle.voxels.proofs.Entered.{below, bound-small}
 use Rattle.listing.specs.Pushed.{output, MadeGroups}
 use Rattle.rules.specs.Unit.{unitGroup, unitGroups}

@@ -5,7 +5,7 @@ use Prim.Native.Nat.{ℕ, _+_, _-_, _*_, _≤_, _<_}
 use lib.ListN.{length, getD}
 use Rattle.geometry.specs.Axes.{bit}
 use Rattle.voxels.specs.declared.index.Stride.{Stride}
-use Rattle.voxels.specs.Inner.{longest}
+use Rattle.voxels.specs.Entered.{longest}
 use Rattle.voxels.specs.Loop.{summed}
 use Rattle.simple.specs.declared.rows.Rows.{Rows}
 use Rattle.simple.specs.declared.rows.Slices.{Slices}

@@ -13,7 +13,7 @@ use Rattle.voxels.specs.declared.extent.Extent.{Extent}
 use Rattle.voxels.specs.declared.index.Stride.{Stride}
 use Rattle.voxels.specs.Shape.{stride, field}
 use Rattle.voxels.specs.Visible.{modulus, visibilityOffset}
-use Rattle.voxels.specs.Inner.{Entered, SoundAround, wideOf, highOf, deepOf}
+use Rattle.voxels.specs.Entered.{Entered, SoundAround, wideOf, highOf, deepOf}
 use Rattle.listing.specs.Pushed.{MadeGroups}
 use Rattle.rules.specs.Unit.{unitGroups}
 use Rattle.simple.specs.declared.Meshed.{Meshed}

@@ -5,7 +5,8 @@ use Prim.Native.Nat.{ℕ, zero, suc, _+_, _*_, _≤_, _<_}
 use lib.ListN.{length, getD}
 use Rattle.geometry.specs.Point.{Point, at}
 use Rattle.voxels.specs.declared.index.Stride.{Stride}
-use Rattle.voxels.specs.Inner.{mostVoxels, keptIf}
+use Rattle.voxels.specs.Entered.{mostVoxels}
+use Rattle.voxels.specs.Rows.{keptIf}
 use Rattle.voxels.specs.Loop.{inStep}
 use Rattle.listing.specs.Pushed.{output, pushedAll}
 use Rattle.simple.specs.declared.rows.Rows.{Rows}

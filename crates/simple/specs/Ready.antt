@@ -8,7 +8,7 @@ use lib.ListN.{length, getD}
 use Rattle.voxels.specs.declared.index.Stride.{Stride}
 use Rattle.voxels.specs.Voxel.{class, shows}
 use Rattle.voxels.specs.Visible.{offsetIndex}
-use Rattle.voxels.specs.Inner.{mostVoxels, longest}
+use Rattle.voxels.specs.Entered.{mostVoxels, longest}
 use Rattle.simple.specs.declared.rows.Rows.{Rows}
 use Rattle.simple.specs.declared.rows.Slices.{Slices}
 

@@ -1,6 +1,6 @@
 // What the loops pass through, from an index on: rows of voxels, and slices of rows.
 ghost use mathlib.Core.Path.{_≡_};
-ghost use Rattle.voxels.specs.Inner.{Interior};
+ghost use Rattle.voxels.specs.Entered.{Interior};
 ghost use Rattle.simple.specs.Kernel.{slicesOf};
 use geometry::axis::Axis;
 use geometry::vector::UVec3;

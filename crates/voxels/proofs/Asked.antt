@@ -13,7 +13,7 @@ use Rattle.geometry.proofs.Refusals.{in-turn, place-passes, place-refuses}
 use Rattle.voxels.specs.Voxel.{class}
 use Rattle.voxels.specs.Loop.{every, stepBy}
 use Rattle.voxels.specs.Checks.{badFacesFrom}
-use Rattle.voxels.specs.Inner.{badAt}
+use Rattle.voxels.specs.Rows.{badAt}
 use Rattle.voxels.proofs.Loops.{loop-start, loop-next, loop-none}
 
 -- A loop over checks that lie a stride apart.

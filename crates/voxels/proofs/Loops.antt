@@ -148,9 +148,6 @@ lists-join = record { left = λ x. refl; right = append-nil; assoc = append-asso
 pub sums-join : Joins 0 _+_
 sums-join = record { left = zero-add; right = add-zero; assoc = add-assoc }
 
-pub states-join : {S : Type 0} → Joins {B = S → S} (λ (s : S). s) andNext
-states-join = record { left = λ x. refl; right = λ x. refl; assoc = λ x y z. refl }
-
 module _ {P B : Type 0} {none : B} {join : B → B → B} (joins : Joins none join) (next : P → P) (g : P → B) where
   -- A loop is its first so many, joined with the others,
   pub loop-parts : (m n : ℕ) (p : P) → looped none join next g p (m + n) ≡ join (looped none join next g p m) (looped none join next g (onward next p m) n)

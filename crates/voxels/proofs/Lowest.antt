@@ -19,7 +19,8 @@ use Rattle.voxels.specs.Extent.{box, interior, scan, Inside}
 use Rattle.voxels.specs.Loop.{looped, every}
 use Rattle.voxels.specs.Checks.{badVoxelAt, badVoxels}
 use Rattle.voxels.specs.Statements.{LowestBad, NoneBad}
-use Rattle.voxels.specs.Inner.{Held, SoundAround, row, rows, slices}
+use Rattle.voxels.specs.Entered.{Held, SoundAround}
+use Rattle.voxels.specs.Rows.{row, rows, slices}
 use Rattle.voxels.proofs.Scan.{scan-inside, inside-scan}
 use Rattle.voxels.proofs.Voxels.{class-small}
 use Rattle.voxels.proofs.Held.{each-flat}

@@ -12,7 +12,8 @@ use Rattle.geometry.proofs.Refusals.{split}
 use Rattle.geometry.proofs.Orders.{part-passes}
 use Rattle.voxels.specs.Voxel.{class}
 use Rattle.voxels.specs.Loop.{looped, stepBy, every}
-use Rattle.voxels.specs.Inner.{mostVoxels, badAt, row, rows, AtMost, RowLent, RowsLent}
+use Rattle.voxels.specs.Entered.{mostVoxels}
+use Rattle.voxels.specs.Rows.{badAt, row, rows, AtMost, RowLent, RowsLent}
 use Rattle.voxels.proofs.Loops.{onward-by, loop-keeps, lists-join, loop-parts}
 use Rattle.voxels.proofs.Asked.{good-here}
 

@@ -14,7 +14,7 @@ use Rattle.geometry.proofs.Lists.{each-append, each-left, each-right}
 use Rattle.voxels.specs.Shape.{index, stride}
 use Rattle.voxels.specs.Extent.{Inside, upTo, scan}
 use Rattle.voxels.specs.Loop.{stepBy, every, stand, onBy, inStep}
-use Rattle.voxels.specs.Inner.{gathered, kept, row, rows, slices}
+use Rattle.voxels.specs.Rows.{gathered, kept, row, rows, slices}
 use Rattle.voxels.proofs.Loops.{onward-by, onward-both, loop-carried, loops-same, loop-keeps, loop-gives}
 use Rattle.voxels.proofs.Places.{index-at}
 use Rattle.voxels.specs.declared.extent.Extent.{Extent}

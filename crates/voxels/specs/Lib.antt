@@ -7,5 +7,6 @@ pub mod Visible
 pub mod Checks
 pub mod Answers
 pub mod Statements
--- For private contracts alone:
-pub mod Inner
+-- For private contracts alone: what an entry that passes leaves, and rows and slices by their indices.
+pub mod Entered
+pub mod Rows

@@ -7,7 +7,7 @@ use Prim.Native.Nat.{ℕ, _+_, _-_, _*_, _≤_}
 use native.Mathlib.Omega.{arith}
 use lib.ListN.{length}
 use Rattle.voxels.specs.Loop.{stepBy}
-use Rattle.voxels.specs.Inner.{mostVoxels}
+use Rattle.voxels.specs.Entered.{mostVoxels}
 use Rattle.voxels.proofs.Loops.{Underway, underway-start, underway-on, next-fits}
 use Rattle.rules.specs.Merger.{walked}
 use Rattle.rules.proofs.Walks.{after}

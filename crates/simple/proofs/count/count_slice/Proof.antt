@@ -3,7 +3,7 @@ use borrow.Author.Needs.{needs}
 use mathlib.Core.Path.{refl, ap}
 use Prim.Native.Nat.{ℕ, _+_, _-_, _*_, _≤_}
 use native.Mathlib.Omega.{arith}
-use Rattle.voxels.specs.Inner.{mostVoxels}
+use Rattle.voxels.specs.Entered.{mostVoxels}
 use Rattle.simple.specs.declared.rows.Rows.{Rows}
 use Rattle.simple.specs.Ready.{offsetOf}
 use Rattle.simple.proofs.Totals.{rows-at-most}

@@ -7,7 +7,7 @@ use mathlib.Core.Path.{refl, sym, _∙_, ap}
 use Prim.Native.Nat.{ℕ, _-_}
 use native.Mathlib.Omega.{arith}
 use Rattle.geometry.specs.Point.{Point}
-use Rattle.voxels.specs.Inner.{keptIf}
+use Rattle.voxels.specs.Rows.{keptIf}
 use Rattle.simple.specs.Ready.{offsetOf}
 use Rattle.simple.specs.List.{voxelQuad}
 use Rattle.simple.proofs.Neighbours.{seen, unseen}

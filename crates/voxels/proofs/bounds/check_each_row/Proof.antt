@@ -6,7 +6,7 @@ use native.Mathlib.Omega.{arith}
 use Rattle.geometry.specs.Refusal.{checked}
 use Rattle.geometry.specs.Answers.{checkMeaning}
 use Rattle.voxels.specs.Loop.{every}
-use Rattle.voxels.specs.Inner.{badAt, row, rows}
+use Rattle.voxels.specs.Rows.{badAt, row, rows}
 use Rattle.voxels.proofs.Asked.{ask-start, ask-on, ask-stops, ask-done}
 use Rattle.voxels.proofs.Loops.{Underway, underway-start, underway-on, next-fits}
 use Rattle.voxels.proofs.bounds.check_each_row.Statement.{statement}

@@ -6,7 +6,7 @@ use native.Mathlib.Nat.{add-sub-cancel-left}
 use native.Mathlib.Omega.{arith}
 use Rattle.geometry.specs.Refusal.{checked}
 use Rattle.voxels.specs.Loop.{every}
-use Rattle.voxels.specs.Inner.{badAt, row}
+use Rattle.voxels.specs.Rows.{badAt, row}
 use Rattle.voxels.proofs.Asked.{ask-on, ask-stops, ask-done, good-here, bad-here}
 use Rattle.voxels.proofs.bounds.first_bad.Statement.{statement}
 use Rattle.voxels.proofs.bounds.first_bad.Tie as tie
