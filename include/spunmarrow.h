@@ -57,20 +57,21 @@ extern "C" {
 #define SPUNMARROW_ANSWER_COUNTS 2  /* six numbers: how many quads each face's group has; all 0 where the call is refused */
 #define SPUNMARROW_ANSWER_TESTS 8   /* greedy meshing: the voxel tests, over all faces; 0 for unit meshing and where the call is refused */
 
-/* The refusal numbers, and what the place is. */
+/* All refusal numbers: when each is given; the place. A mesher's answer has the place, and the drawing calls, where it is always 0, tell none. 10 and 11 are of signed axes, which no
+ * call here makes. */
 #define SPUNMARROW_ACCEPTED 0
 #define SPUNMARROW_REFUSED_SHAPE 1          /* an axis of the shape is 0 or above 256; the first such axis (0, 1, 2 for x, y, z) */
 #define SPUNMARROW_REFUSED_FEW_VOXELS 2     /* fewer voxels lent than X*Y*Z; 0 */
 #define SPUNMARROW_REFUSED_MIN_ABOVE_MAX 3  /* min is above max on an axis; the first such axis */
 #define SPUNMARROW_REFUSED_MAX_PAST_SHAPE 4 /* max is at or past the shape on an axis; the first such axis */
 #define SPUNMARROW_REFUSED_MIN_IS_MAX 5     /* min equals max on an axis; the first such axis */
-#define SPUNMARROW_REFUSED_FACE_SIGN 6      /* a face's sign is neither 1 nor -1; the first such face, 0 to 5 */
+#define SPUNMARROW_REFUSED_FACE_SIGN 6      /* a face's sign is neither 1 nor -1; of a mesher the first such face, 0 to 5 */
 #define SPUNMARROW_REFUSED_FEW_VISITED 7    /* greedy meshing: fewer visited bytes lent than X*Y*Z; 0 */
 #define SPUNMARROW_REFUSED_BAD_VOXEL 8      /* a voxel of class 3 inside the box; its index, the lowest of them */
 #define SPUNMARROW_REFUSED_MANY_QUADS 9     /* more quads than the output holds; how many it holds */
-#define SPUNMARROW_REFUSED_QUAD_LIMITS 12   /* a quad outside the quad limits */
-#define SPUNMARROW_REFUSED_FIRST_INDEX 13   /* a first index above 4,294,967,292 */
-#define SPUNMARROW_REFUSED_VOXEL_SIZE 14    /* a voxel size that is NaN or infinite */
+#define SPUNMARROW_REFUSED_QUAD_LIMITS 12   /* a quad outside the quad limits; 0 */
+#define SPUNMARROW_REFUSED_FIRST_INDEX 13   /* a first index above 4,294,967,292; 0 */
+#define SPUNMARROW_REFUSED_VOXEL_SIZE 14    /* a voxel size that is NaN or infinite; 0 */
 #define SPUNMARROW_REFUSED_NUMBER 17        /* a permutation's number outside 0 to 5, a corner's outside 0 to 3, or an axis' outside 0 to 2; of a mesher the first such face, 0 to 5 */
 
 /* ---- meshing ----

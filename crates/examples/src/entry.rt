@@ -4,11 +4,11 @@ use crate::show;
 use geometry::axis::Axis;
 use geometry::axis::SignedAxis;
 use geometry::face::OrientedBlockFace;
+use geometry::refusal::CheckAnswer;
 use geometry::vector::UVec3;
 use libc::STDOUT_FILENO;
 use voxels::bounds;
 use voxels::bounds::EntryAnswer;
-use voxels::bounds::EntryCheck;
 use voxels::index::Stride;
 use voxels::index::VoxelIndex;
 use voxels::voxel;
@@ -108,10 +108,11 @@ fn count(lent: usize, side: u32) {
     show::end();
 }
 
-fn checked(answer: EntryCheck) {
+// The answer of a check of an entry, with its place.
+fn checked(answer: CheckAnswer) {
     match answer {
-        EntryCheck::Passed => show::text(b" passed"),
-        EntryCheck::Refused(number, place) => refused(number, place),
+        CheckAnswer::Passed => show::text(b" passed"),
+        CheckAnswer::Refused(number, place) => refused(number, place),
     }
 }
 

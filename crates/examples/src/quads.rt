@@ -7,6 +7,7 @@ use geometry::axis::AxisPermutation;
 use geometry::axis::SignedAxis;
 use geometry::face::OrientedBlockFace;
 use geometry::vector::UVec3;
+use greedy::GreedyAnswer;
 
 pub fn run() {
     one_voxel();
@@ -30,7 +31,8 @@ pub fn roof(voxels: &[u16], visited: &mut [u8], out: &mut [u32]) -> u64 {
     let up = OrientedBlockFace::canonical(SignedAxis::PosZ);
     let faces = [up, up, up, up, up, up];
     let answer = greedy::greedy_quads(voxels, shape, min, max, faces, visited, out);
-    let counts = answer.counts;
+    let mesh = answer.mesh;
+    let counts = mesh.counts;
     counts[0]
 }
 
@@ -270,10 +272,10 @@ fn lent(
     left(visited, out);
 }
 
-fn answered(answer: greedy::GreedyAnswer) {
+fn answered(answer: GreedyAnswer) {
     show::text(b", greedy:");
-    let counts = answer.counts;
-    show::answer(answer.refusal, answer.place, counts);
+    let mesh = answer.mesh;
+    show::answer(mesh);
     show::text(b", tests");
     show::count(answer.tests);
 }

@@ -7,6 +7,7 @@ use geometry::refusal::CheckAnswer;
 use geometry::vector::IVec3;
 use geometry::vector::UVec3;
 use libc::STDOUT_FILENO;
+use listing::MeshAnswer;
 
 pub fn text(s: &[u8]) {
     io::write_all(STDOUT_FILENO, s);
@@ -35,14 +36,15 @@ pub fn last(n: u32) -> u32 {
 }
 
 // What a mesher answers: its refusal, if it has one, and its six counts.
-pub fn answer(refusal: u32, place: u64, counts: [u64; 6]) {
-    if refusal != 0 {
-        refused(refusal);
+pub fn answer(mesh: MeshAnswer) {
+    if mesh.refusal != 0 {
+        refused(mesh.refusal);
         text(b" at ");
-        io::print_decimal(STDOUT_FILENO, place);
+        io::print_decimal(STDOUT_FILENO, mesh.place);
         text(b",");
     }
     text(b" counts");
+    let counts = mesh.counts;
     count(counts[0]);
     count(counts[1]);
     count(counts[2]);
@@ -82,11 +84,11 @@ pub fn zeros(visited: &[u8]) -> usize {
     n
 }
 
-// The answer of a check.
+// The answer of a check of geometry, whose place is 0.
 pub fn checked(answer: CheckAnswer) {
     match answer {
         CheckAnswer::Passed => text(b" passed"),
-        CheckAnswer::Refused(number) => refused(number),
+        CheckAnswer::Refused(number, _) => refused(number),
     }
 }
 

@@ -5,6 +5,7 @@ use crate::show;
 use geometry::axis::SignedAxis;
 use geometry::face::OrientedBlockFace;
 use geometry::vector::UVec3;
+use listing::MeshAnswer;
 
 pub fn run() {
     one_voxel();
@@ -125,10 +126,9 @@ fn meshed(name: &[u8], block: &[u16], x: u32, y: u32, z: u32, out: &mut [u32]) {
 }
 
 // The answer, and the whole output.
-fn answered(answer: simple::UnitAnswer, out: &[u32]) {
+fn answered(answer: MeshAnswer, out: &[u32]) {
     show::text(b", unit:");
-    let counts = answer.counts;
-    show::answer(answer.refusal, answer.place, counts);
+    show::answer(answer);
     show::text(b", out");
     show::numbers(out);
     show::end();

@@ -1,12 +1,12 @@
 -- From a check's answer to a call's: what a call gives is decided by the checks that it asked.
-use mathlib.Core.List.{List, _++_}
+use mathlib.Core.List.{List}
 use mathlib.Core.Path.{_≡_, sym, _∙_, ap}
 use Prim.Native.Nat.{ℕ}
 use Rattle.geometry.specs.declared.refusal.CheckAnswer
 use Rattle.geometry.specs.declared.refusal.CheckAnswer.the-variants.{Passed, Refused}
-use Rattle.geometry.specs.Refusal.{Answer, accepted, refused, Check, answer, checked, follow}
+use Rattle.geometry.specs.Refusal.{accepted, refused, Check, answer, checked}
 use Rattle.geometry.specs.Answers.{checkMeaning}
-use Rattle.geometry.proofs.Refusals.{in-turn, decided}
+use Rattle.geometry.proofs.Refusals.{whole-refuses, whole-passes, AllAtPlace0, refuses-at-0}
 
 module _ (cs : List Check) {r : CheckAnswer.CheckAnswer} (told : checkMeaning r ≡ checked cs) where
   pub passed : r ≡ Passed → checked cs ≡ accepted tt
@@ -14,12 +14,8 @@ module _ (cs : List Check) {r : CheckAnswer.CheckAnswer} (told : checkMeaning r 
 
   -- A call whose checks passed gives its value,
   pub value-given : {A : Type 0} (a : A) {v : A} → r ≡ Passed → v ≡ a → accepted v ≡ answer cs a
-  value-given {A} a e h = rw (h, decided cs a, ← told, e)
+  value-given a e h = whole-passes cs a (passed e) h
 
-  -- and one whose checks refused gives their number.
-  pub number-given : {A : Type 0} (a : A) {n : ℕ} → r ≡ Refused n → refused n 0 ≡ answer cs a
-  number-given a e = rw (decided cs a, ← told, e)
-
--- Of an order that is asked in two parts, the first that refuses decides.
-pub asked-in-turn : (cs ds : List Check) {x y z : Answer (Unit {0})} → x ≡ checked cs → y ≡ checked ds → z ≡ follow x y → z ≡ checked (cs ++ ds)
-asked-in-turn cs ds e d both = rw (both, e, d) (sym (in-turn cs ds tt))
+  -- and one whose checks refused gives their number. It has no place to give: all its checks are at place 0.
+  pub number-given : {A : Type 0} (a : A) {n p : ℕ} → AllAtPlace0 cs → r ≡ Refused n p → refused n 0 ≡ answer cs a
+  number-given a all e = whole-refuses cs a (refuses-at-0 cs all (sym told ∙ ap checkMeaning e))

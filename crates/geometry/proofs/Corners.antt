@@ -1,7 +1,7 @@
 -- Laws of corners: where the base and every corner lie along n, u and v, and that no corner is past the largest axis.
 use mathlib.Core.Bool.{true, false}
 use mathlib.Core.Path.{_≡_, refl}
-use Prim.Native.Nat.{ℕ, _+_, _≤_}
+use Prim.Native.Nat.{ℕ, _+_}
 use native.Mathlib.Omega.{arith}
 use Rattle.geometry.specs.declared.quad.UnorientedQuad.{UnorientedQuad}
 use Rattle.geometry.specs.declared.face.OrientedBlockFace.{OrientedBlockFace}

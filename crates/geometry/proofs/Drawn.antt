@@ -1,5 +1,5 @@
 -- A quad within the limits, on a face whose sign is proper, can be drawn: none of the checks that the drawing calls ask applies.
-use mathlib.Core.Bool.{true, false, not}
+use mathlib.Core.Bool.{true, not}
 use mathlib.Core.List.{List, [], _∷_}
 use mathlib.Core.Path.{_≡_, _∙_, ap}
 use borrow.Author.Tests.{le-ltb}

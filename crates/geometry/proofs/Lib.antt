@@ -1,10 +1,14 @@
 -- Laws, and what is shown of the contracts themselves. A function's own proof stands in the folder named after it.
 -- Of tests.
 pub mod Tests
--- Of orders of refusals.
+-- Of refusals, and of an order of them.
 pub mod Refusals
+-- Of orders asked part by part.
+pub mod Orders
 -- From a check's answer to a call's.
 pub mod Answers
+-- Of lists.
+pub mod Lists
 -- Of signs and their bits.
 pub mod Signs
 -- Of permutations and signed axes.

@@ -1,7 +1,7 @@
 -- Laws of the quad limits.
-use mathlib.Core.Bool.{Bool, true, false, not, _&&_}
+use mathlib.Core.Bool.{Bool, true, not, _&&_}
 use mathlib.Core.List.{List, [], _∷_}
-use mathlib.Core.Path.{_≡_, refl}
+use mathlib.Core.Path.{_≡_}
 use Prim.Native.Nat.{ℕ, _+_, _-_, _≤_}
 use lib.Dec.{leb}
 use borrow.Author.Tests.{leb-true, le-leb, ltb-false, not-false}
@@ -40,9 +40,9 @@ voxel-at-most p h =
     elim [ X ↦ leb-true _ _ x | Y ↦ leb-true _ _ y | Z ↦ leb-true _ _ z ]
 
 -- of a side,
-side-at-most : (from long : ℕ) → sideWithinLimits from long ≡ true → from + long ≤ largestAxis
+side-at-most : (from side : ℕ) → sideWithinLimits from side ≡ true → from + side ≤ largestAxis
 unfolding sideWithinLimits
-side-at-most from long h = leb-true _ _ (both-true (leb 1 long) (leb (from + long) largestAxis) h .1)
+side-at-most from side h = leb-true _ _ (both-true (leb 1 side) (leb (from + side) largestAxis) h .1)
 
 -- and of the quad.
 pub limits-bounds : (f : OrientedBlockFace) (q : UnorientedQuad) → withinLimits (axesOf (f .permutation)) q ≡ true → WithinBounds f q

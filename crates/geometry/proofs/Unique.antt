@@ -40,11 +40,13 @@ use Rattle.geometry.proofs.face.OrientedBlockFace.quad_mesh_positions.R
 use Rattle.geometry.proofs.face.OrientedBlockFace.signed_normal.Reads as OrientedBlockFace-signed-normal
 use Rattle.geometry.proofs.face.OrientedBlockFace.tex_coords.Reads as OrientedBlockFace-tex-coords
 use Rattle.geometry.proofs.quad.UnorientedQuad.from.Reads as UnorientedQuad-from
+use Rattle.geometry.proofs.refusal.first_refusal.Reads as first-refusal
 
 -- ---- answers that mean the same are the same
 
-check-one : (r r′ : CheckAnswer.CheckAnswer) → says.checkMeaning r ≡ says.checkMeaning r′ → r ≡ r′
-check-one = answered says.checkMeaning (λ u. CheckAnswer.the-variants.Passed) (λ n p. CheckAnswer.the-variants.Refused n) (elim [ CheckAnswer.the-variants.Passed ↦ refl | CheckAnswer.the-variants.Refused n ↦ refl ])
+-- What a check of any crate answers:
+pub check-one : (r r′ : CheckAnswer.CheckAnswer) → says.checkMeaning r ≡ says.checkMeaning r′ → r ≡ r′
+check-one = answered says.checkMeaning (λ u. CheckAnswer.the-variants.Passed) CheckAnswer.the-variants.Refused (elim [ CheckAnswer.the-variants.Passed ↦ refl | CheckAnswer.the-variants.Refused n p ↦ refl ])
 
 permutation-one : (r r′ : PermutationAnswer.PermutationAnswer) → says.permutationMeaning r ≡ says.permutationMeaning r′ → r ≡ r′
 permutation-one = answered says.permutationMeaning PermutationAnswer.the-variants.Permutation (λ n p. PermutationAnswer.the-variants.Refused n) (elim [ PermutationAnswer.the-variants.Permutation a ↦ refl | PermutationAnswer.the-variants.Refused n ↦ refl ])
@@ -128,6 +130,9 @@ SignedAxis-from-vector-unique κs a r r′ s s′ p q = signed-axis-one r r′ (
 
 pub OrientedBlockFace-new-unique : One OrientedBlockFace-new.Post
 OrientedBlockFace-new-unique κs a r r′ s s′ p q = face-one r r′ (p ∙ sym q)
+
+pub first-refusal-unique : One first-refusal.Post
+first-refusal-unique κs a r r′ s s′ p q = check-one r r′ (p ∙ sym q)
 
 pub OrientedBlockFace-check-sign-unique : One OrientedBlockFace-check-sign.Post
 OrientedBlockFace-check-sign-unique κs a r r′ s s′ p q = check-one r r′ (p ∙ sym q)

@@ -1,4 +1,5 @@
--- What each answer means: for each enum that a call gives, document 01's value, number and place for each of its cases. Every refusal of this crate has place 0.
+-- What each answer means: for each enum that a call gives, document 01's value, number and place for each of its cases. A check's answer says the place, for the checks
+-- of every crate; the others leave it out, since every refusal of this crate has place 0.
 use Rattle.geometry.specs.Refusal.{Answer, accepted, refused}
 use Rattle.geometry.specs.declared.vector.IVec3.{IVec3}
 use Rattle.geometry.specs.declared.axis.AxisPermutation.{AxisPermutation}
@@ -25,7 +26,7 @@ use Rattle.geometry.specs.declared.face.PositionAnswer
 -- A check that passed has nothing more to say.
 abbrev pub checkMeaning : CheckAnswer.CheckAnswer → Answer (Unit {0})
 checkMeaning CheckAnswer.the-variants.Passed = accepted tt
-checkMeaning (CheckAnswer.the-variants.Refused n) = refused n 0
+checkMeaning (CheckAnswer.the-variants.Refused n p) = refused n p
 
 -- A signed axis.
 abbrev pub signedAxisMeaning : SignedAxisAnswer.SignedAxisAnswer → Answer SignedAxis

@@ -10,6 +10,8 @@ pub mod Corners
 pub mod Vertices
 pub mod Textures
 pub mod Answers
+-- Words for lists, for whoever speaks of many:
+pub mod Lists
 -- What is shown for whoever draws a quad:
 pub mod Statements
 -- For private contracts alone:

@@ -21,7 +21,7 @@ minimumWithinLimits p = leb (p .x) (largestAxis - 1) && leb (p .y) (largestAxis 
 
 -- "width and height at least 1, minimum plus width on u and minimum plus height on v at most 256": of one side, from the minimum's coordinate on.
 unfoldable pub sideWithinLimits : ℕ → ℕ → Bool
-sideWithinLimits from length = leb 1 length && leb (from + length) largestAxis
+sideWithinLimits from side = leb 1 side && leb (from + side) largestAxis
 
 -- The quad limits, along a face's own u and v.
 unfoldable pub withinLimits : Axes → UnorientedQuad → Bool

@@ -1,5 +1,6 @@
 -- Refusals: document 01, 'Refusal numbers'. "Checked in this order; the first that applies is given, with its place." The Rust has none.
--- A refusal at some input is a `Check`, an order is a list of them, and `answer` gives the first that applies.
+-- A refusal at some input is a `Check`: its number, whether it applies, and its place. An order is a list of checks. A call answers the number and place of the first check of
+-- its order that applies, and its value where none does (`answer`). The refusals and orders of every crate are said in these words.
 use mathlib.Core.Bool.{Bool, true, false}
 use mathlib.Core.List.{List, [], _∷_}
 use Prim.Native.Nat.{ℕ}
@@ -18,6 +19,10 @@ pub record Check : Type 0 where
 -- A check whose place is 0, as it is for all of geometry's.
 abbrev pub atPlace0 : ℕ → Bool → Check
 atPlace0 n b = record { number = n; applies = b; place = 0 }
+
+-- A check at another place.
+abbrev pub atPlace : ℕ → Check → Check
+atPlace k c = record { number = c .number; applies = c .applies; place = k }
 
 -- The first check of the list that applies refuses, with its number and place. Where none applies the value is given.
 unfoldable pub answer : {A : Type 0} → List Check → A → Answer A

@@ -1,5 +1,5 @@
 -- What is shown of a quad for whoever draws it: document 01, 'Corners and vertex numbers' and 'Refusal numbers' ("Quad limits"). A quad within the limits, on a face whose sign is
--- proper, is `Drawn` (proofs/Drawn.antt, `drawn`). Every quad that a mesher lists is (`unit-drawn`, crates/simple/proofs/Drawn.antt; `greedy-drawn`, crates/greedy/proofs/Drawn.antt).
+-- proper, is `Drawn` (proofs/Drawn.antt, `drawn`). Every quad that a mesher lists is (`unit-drawn` and `greedy-drawn`, crates/rules/proofs/Drawn.antt).
 use mathlib.Core.Bool.{Bool, true, false}
 use mathlib.Core.Path.{_≡_}
 use Prim.Native.Nat.{_≤_}

@@ -21,8 +21,8 @@ flipsU f uFlipFace =
 -- A texture coordinate along a side: 0 at its near end, its length at its far end. With no flip the minimum end is near and the maximum end far; a flip
 -- swaps them.
 abbrev pub sideEnd : Bool → ℕ → ℕ
-sideEnd false length = 0
-sideEnd true length = length
+sideEnd false side = 0
+sideEnd true side = side
 
 -- A texture pair as f32 numbers (face.rs 134 to 157, `as f32`).
 abbrev pub pair : ℕ → ℕ → TexCoord

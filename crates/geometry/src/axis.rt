@@ -174,7 +174,7 @@ impl AxisPermutation {
             3 => PermutationAnswer::Permutation(AxisPermutation::Zyx),
             4 => PermutationAnswer::Permutation(AxisPermutation::Xzy),
             5 => PermutationAnswer::Permutation(AxisPermutation::Yxz),
-            _ => PermutationAnswer::Refused(refusal::PERMUTATION_NUMBER),
+            _ => PermutationAnswer::Refused(refusal::NO_SUCH_NUMBER),
         }
     }
 }

@@ -9,7 +9,7 @@ ghost use mathlib.Core.Bool.{true};
 ghost use mathlib.Core.List.{[], _∷_};
 ghost use Prim.Native.Nat.{_+_, _<_, _≤_, _^_};
 ghost use lib.IntN.{pos, _*ℤ_};
-ghost use Rattle.geometry.specs.Refusal.{checked, follow};
+ghost use Rattle.geometry.specs.Refusal.{checked};
 ghost use Rattle.geometry.specs.Point.{along, moved};
 ghost use Rattle.geometry.specs.Axes.{positive, permutationSign};
 ghost use Rattle.geometry.specs.Quad.{largestAxis, minimumWithinLimits, sideWithinLimits};
@@ -27,6 +27,7 @@ use crate::axis::SignedAxis;
 use crate::quad::UnorientedQuad;
 use crate::refusal;
 use crate::refusal::CheckAnswer;
+use crate::refusal::first_refusal;
 use crate::vector::IVec3;
 use crate::vector::UVec3;
 
@@ -178,7 +179,7 @@ impl OrientedBlockFace {
         };
         match face.check_sign() {
             CheckAnswer::Passed => FaceAnswer::Face(face),
-            CheckAnswer::Refused(number) => FaceAnswer::Refused(number),
+            CheckAnswer::Refused(number, _) => FaceAnswer::Refused(number),
         }
     }
 
@@ -205,7 +206,7 @@ impl OrientedBlockFace {
         if sign == -1 {
             return CheckAnswer::Passed;
         }
-        CheckAnswer::Refused(refusal::FACE_SIGN)
+        CheckAnswer::Refused(refusal::FACE_SIGN, 0)
     }
 
     // Check 12 by itself: the quad is within the limits along this face's u and v, whatever the
@@ -225,7 +226,7 @@ impl OrientedBlockFace {
                 }
             }
         }
-        CheckAnswer::Refused(refusal::QUAD_LIMITS)
+        CheckAnswer::Refused(refusal::QUAD_LIMITS, 0)
     }
 
     // What a call that draws a quad on a face checks first: 6, then 12.
@@ -243,7 +244,7 @@ impl OrientedBlockFace {
     {
         match self.check_sign() {
             CheckAnswer::Passed => SignedNormalAnswer::SignedNormal(self.normal()),
-            CheckAnswer::Refused(number) => SignedNormalAnswer::Refused(number),
+            CheckAnswer::Refused(number, _) => SignedNormalAnswer::Refused(number),
         }
     }
 
@@ -289,7 +290,7 @@ impl OrientedBlockFace {
     {
         match self.check_drawing(quad) {
             CheckAnswer::Passed => CornersAnswer::Corners(self.corners(quad)),
-            CheckAnswer::Refused(number) => CornersAnswer::Refused(number),
+            CheckAnswer::Refused(number, _) => CornersAnswer::Refused(number),
         }
     }
 
@@ -351,7 +352,7 @@ impl OrientedBlockFace {
     {
         match self.check_placing(quad, voxel_size) {
             CheckAnswer::Passed => PositionsAnswer::Positions(self.positions(quad, voxel_size)),
-            CheckAnswer::Refused(number) => PositionsAnswer::Refused(number),
+            CheckAnswer::Refused(number, _) => PositionsAnswer::Refused(number),
         }
     }
 
@@ -386,7 +387,7 @@ impl OrientedBlockFace {
                 let at = self.position(quad, which, voxel_size);
                 PositionAnswer::Position(at.x, at.y, at.z)
             }
-            CheckAnswer::Refused(number) => PositionAnswer::Refused(number),
+            CheckAnswer::Refused(number, _) => PositionAnswer::Refused(number),
         }
     }
 
@@ -430,7 +431,7 @@ impl OrientedBlockFace {
                     maxu_maxv: normal,
                 })
             }
-            CheckAnswer::Refused(number) => NormalsAnswer::Refused(number),
+            CheckAnswer::Refused(number, _) => NormalsAnswer::Refused(number),
         }
     }
 
@@ -457,7 +458,7 @@ impl OrientedBlockFace {
             CheckAnswer::Passed => {
                 IndicesAnswer::Indices(quad_indices(start, self.counter_clockwise()))
             }
-            CheckAnswer::Refused(number) => IndicesAnswer::Refused(number),
+            CheckAnswer::Refused(number, _) => IndicesAnswer::Refused(number),
         }
     }
 
@@ -497,7 +498,7 @@ impl OrientedBlockFace {
                 let flip_u = self.flips_u(u_flip_face);
                 TexCoordsAnswer::TexCoords(tex_pairs(flip_u, flip_v, quad.width, quad.height))
             }
-            CheckAnswer::Refused(number) => TexCoordsAnswer::Refused(number),
+            CheckAnswer::Refused(number, _) => TexCoordsAnswer::Refused(number),
         }
     }
 
@@ -513,16 +514,6 @@ impl OrientedBlockFace {
             return u_flip_face.index() != n.index();
         }
         u_flip_face.index() == n.index()
-    }
-}
-
-// The first of two checks that refuses.
-fn first_refusal(first: CheckAnswer, second: CheckAnswer) -> CheckAnswer
-    ensures { λ r. ⌜ checkMeaning r ≡ follow (checkMeaning first) (checkMeaning second) ⌝ }
-{
-    match first {
-        CheckAnswer::Passed => second,
-        CheckAnswer::Refused(number) => CheckAnswer::Refused(number),
     }
 }
 
@@ -567,16 +558,16 @@ fn minimum_within_limits(p: UVec3) -> bool
 }
 
 // Whether a side is at least 1 long and ends within the largest axis.
-fn side_within_limits(start: u32, length: u32) -> bool
-    ensures { λ r. ⌜ r ≡ sideWithinLimits start length ⌝ }
+fn side_within_limits(start: u32, side: u32) -> bool
+    ensures { λ r. ⌜ r ≡ sideWithinLimits start side ⌝ }
 {
-    if length == 0 {
+    if side == 0 {
         return false;
     }
     if LARGEST_AXIS < start {
         return false;
     }
-    if LARGEST_AXIS - start < length {
+    if LARGEST_AXIS - start < side {
         return false;
     }
     true
@@ -593,7 +584,7 @@ fn check_size(voxel_size: f32) -> CheckAnswer
             return CheckAnswer::Passed;
         }
     }
-    CheckAnswer::Refused(refusal::VOXEL_SIZE)
+    CheckAnswer::Refused(refusal::VOXEL_SIZE, 0)
 }
 
 // Check 13: three more vertex numbers fit after the first.
@@ -602,7 +593,7 @@ fn check_start(start: VertexIndex) -> CheckAnswer
 {
     let first = start.0;
     if LAST_START < first {
-        return CheckAnswer::Refused(refusal::FIRST_INDEX);
+        return CheckAnswer::Refused(refusal::FIRST_INDEX, 0);
     }
     CheckAnswer::Passed
 }
@@ -652,9 +643,9 @@ fn tex_pairs(flip_u: bool, flip_v: bool, width: u32, height: u32) -> QuadTexCoor
 }
 
 // A texture coordinate at an end of a side: the side's length at the far end, and 0 at the other.
-fn side_end(far: bool, length: u32) -> f32
-    requires { ⌜ length ≤ largestAxis ⌝ }
-    ensures { λ r. ⌜ r ≡ asF32 (pos (sideEnd far length)) ⌝ }
+fn side_end(far: bool, side: u32) -> f32
+    requires { ⌜ side ≤ largestAxis ⌝ }
+    ensures { λ r. ⌜ r ≡ asF32 (pos (sideEnd far side)) ⌝ }
 {
-    if far { length as f32 } else { 0.0 }
+    if far { side as f32 } else { 0.0 }
 }

@@ -1,5 +1,11 @@
 // The refusal numbers that geometry gives, document 01's and 17, which is ours (docs/DECISIONS.md),
-// and the answer of a check.
+// and what a check of any crate answers.
+//
+// A call asks its checks in an order, and the first that refuses decides: `first_refusal` joins two
+// checks, and so any order.
+ghost use mathlib.Core.Path.{_≡_};
+ghost use Rattle.geometry.specs.Refusal.{follow};
+ghost use Rattle.geometry.specs.Answers.{checkMeaning};
 
 // A face's sign is neither 1 nor -1.
 pub const FACE_SIGN: u32 = 6;
@@ -20,11 +26,23 @@ pub const FIRST_INDEX: u32 = 13;
 // A voxel size that is NaN or infinite.
 pub const VOXEL_SIZE: u32 = 14;
 
-// A permutation's number that is not 0 to 5.
-pub const PERMUTATION_NUMBER: u32 = 17;
+// A number that stands for nothing: a permutation's that is not 0 to 5 and, in the calls from C, a
+// corner's that is not 0 to 3 or an axis' that is not 0 to 2.
+pub const NO_SUCH_NUMBER: u32 = 17;
 
-// What a check says: nothing is refused, or the refusal number.
+// What a check says: nothing is refused, or the refusal number and its place. Geometry's own checks
+// give place 0.
 pub enum CheckAnswer {
     Passed,
-    Refused(u32),
+    Refused(u32, u64),
+}
+
+// The first of two checks that refuses.
+pub fn first_refusal(first: CheckAnswer, second: CheckAnswer) -> CheckAnswer
+    ensures { λ r. ⌜ checkMeaning r ≡ follow (checkMeaning first) (checkMeaning second) ⌝ }
+{
+    match first {
+        CheckAnswer::Passed => second,
+        CheckAnswer::Refused(_, _) => first,
+    }
 }

@@ -1,13 +1,10 @@
 -- An accepted call's face: all that its scan reads was lent, its tests are few, and what the scan makes is the face's group.
-use mathlib.Core.Bool.{not}
-use mathlib.Core.List.{List, [], _∷_, _++_, map}
+use mathlib.Core.List.{List}
 use mathlib.Core.Path.{_≡_, refl, sym, _∙_, ap}
 use Prim.Native.Nat.{ℕ, _+_, _-_, _*_, _%_, _≤_, _<_}
 use native.Mathlib.Nat.{add-zero, zero-mul, mul-assoc, mul-comm, mul-le-mul, mul-le-mul-right}
 use native.Mathlib.Omega.{arith}
-use lib.Dec.{eqb}
-use lib.ListN.{length, getD, drop, replicate, length-append, length-drop, length-replicate, getD-replicate, List·getD-append}
-use lib.Seq.{drop-at}
+use lib.ListN.{length, drop, replicate}
 use Rattle.geometry.specs.declared.axis.Axis.{Axis}
 use Rattle.geometry.specs.declared.axis.Axis.the-variants.{X, Y, Z}
 use Rattle.geometry.specs.declared.axis.Axes.{Axes}
@@ -15,49 +12,25 @@ use Rattle.geometry.specs.declared.face.OrientedBlockFace.{OrientedBlockFace}
 use Rattle.geometry.specs.Point.{Point, along}
 use Rattle.geometry.specs.Axes.{positive, axesOf, nAxis, uAxis, vAxis}
 use Rattle.geometry.proofs.Frame.{frame}
-use Rattle.voxels.specs.declared.index.Stride.{Stride}
-use Rattle.voxels.specs.declared.extent.Extent.{Extent}
-use Rattle.voxels.specs.Shape.{size, index, stride, InShape, field}
+use Rattle.voxels.specs.Shape.{size, index, stride}
 use Rattle.voxels.specs.Extent.{Inside}
-use Rattle.voxels.specs.Visible.{modulus, visibilityOffset, offsetIndex}
-use Rattle.voxels.specs.Listing.{overwritten}
-use Rattle.voxels.specs.Inner.{mostVoxels, longest, Entered, output, pushedAll}
+use Rattle.voxels.specs.Visible.{modulus, visibilityOffset}
+use Rattle.voxels.specs.Entered.{mostVoxels, Entered}
 use Rattle.voxels.proofs.Places.{index-below}
 use Rattle.voxels.proofs.Entered.{below, entered-stride, minimum-index, bound-within, bound-small, inner-in-shape, inner-beyond}
+use Rattle.listing.specs.Listing.{overwritten}
+use Rattle.listing.specs.Pushed.{output, pushedAll}
+use Rattle.rules.specs.Group.{fresh, roomU, roomV, visited}
+use Rattle.rules.proofs.Spread.{spread, spread-n, spread-u, spread-v, spread-index, spread-inside}
+use Rattle.greedy.specs.Walks.{Touches}
+use Rattle.greedy.specs.Spans.{faster, slower, spanOf, faceScan, uStride, vStride, sideOffset}
+use Rattle.greedy.specs.Scans.{Scanned, SpotReady, SlicesScan, faceTests, voxelTests, Accepted, SlicesScanned, FaceMeshed}
+use Rattle.greedy.proofs.Sweeps.{spot-index, spot-inside, Same, group-same}
+use Rattle.greedy.proofs.Cleared.{cleared-length, cleared-rest, cleared-zero}
+use Rattle.voxels.specs.declared.index.Stride.{Stride}
+use Rattle.voxels.specs.declared.extent.Extent.{Extent}
 use Rattle.greedy.specs.declared.face_scan.Span.{Span}
 use Rattle.greedy.specs.declared.face_scan.FaceScan.{FaceScan}
-use Rattle.greedy.specs.Group.{visited, State, fresh, roomU, roomV}
-use Rattle.greedy.specs.Greedy.{quadNumbers, numbersOf, greedyGroup, listedGroup}
-use Rattle.greedy.specs.Inner.{Touches, RowReady, QuadReady, faster, slower, spot, spanOf, faceScan, Scanned, progress, SpotReady, RowScan, SliceScan, SlicesScan, slicesAlong, voxelTests, Accepted, Made, MadeFace}
-use Rattle.greedy.proofs.Spread.{spread, spread-n, spread-u, spread-v, spread-index, spread-inside}
-use Rattle.greedy.proofs.Sweeps.{spot-index, spot-inside, Same, group-same}
-
--- ---- clearing
-
-zeros : (n : ℕ) → length {A = ℕ} (replicate n 0) ≡ n
-zeros n = length-replicate n 0
-
--- Clearing keeps the number of bytes,
-pub cleared-length : (n : ℕ) (marks : List ℕ) → n ≤ length marks → length (overwritten (replicate n 0) marks) ≡ length marks
-unfolding overwritten
-cleared-length n marks h =
-    length-append (replicate n 0) (drop (length {A = ℕ} (replicate n 0)) marks)
-    ∙ rw (length-drop (length {A = ℕ} (replicate n 0)) marks, zeros n) (omega arith)
-
--- and those past the first n;
-pub cleared-rest : (n : ℕ) (marks : List ℕ) → drop n (overwritten (replicate n 0) marks) ≡ drop n marks
-unfolding overwritten
-cleared-rest n marks = drop-at (replicate n 0) (drop (length {A = ℕ} (replicate n 0)) marks) n (zeros n) ∙ ap (λ (k : ℕ). drop k marks) (zeros n)
-
--- those are 0 then.
-pub cleared-zero : (n : ℕ) (marks : List ℕ) (i : ℕ) → i < n → getD (overwritten (replicate n 0) marks) i 0 ≡ 0
-unfolding overwritten
-cleared-zero n marks i h = List·getD-append (replicate n 0) _ 0 i (rw (zeros n) h) ∙ getD-replicate n i 0 0 h
-
--- Cleared again, bytes that were left alone past the first n are as if cleared at once.
-pub cleared-again : (n : ℕ) (marks was : List ℕ) → drop n marks ≡ drop n was → overwritten (replicate n 0) marks ≡ overwritten (replicate n 0) was
-unfolding overwritten
-cleared-again n marks was e = rw (zeros n, e)
 
 -- The product of a shape's axes, whichever is n.
 shape-product : (n : Axis) (shape : Point) → along n shape * (along (slower n) shape * along (faster n) shape) ≡ size shape
@@ -92,15 +65,6 @@ module _ (lent marked : ℕ) (shape : Point) (inner : Extent) (accepted : Accept
   abbrev c : FaceScan
   c = faceScan shape inner f
 
-  abbrev du : ℕ
-  du = stride shape (uAxis f)
-
-  abbrev dv : ℕ
-  dv = stride shape (vAxis f)
-
-  abbrev offset : ℕ
-  offset = visibilityOffset (positive (f .«n_sign»)) (stride shape (nAxis f))
-
   -- How many coordinates an axis has there.
   abbrev count : Axis → ℕ
   count a = along a (inner .bound) - along a (inner .minimum)
@@ -108,7 +72,7 @@ module _ (lent marked : ℕ) (shape : Point) (inner : Extent) (accepted : Accept
   -- ---- all that the scan reads was lent
 
   -- With no more steps than the room, a point is in the shape.
-  spread-below : (i j : ℕ) (p : Point) → Inside inner p → i ≤ roomU f inner p → j ≤ roomV f inner p → index shape p + j * dv + i * du < size shape
+  spread-below : (i j : ℕ) (p : Point) → Inside inner p → i ≤ roomU f inner p → j ≤ roomV f inner p → index shape p + j * (vStride shape f) + i * (uStride shape f) < size shape
   spread-below i j p h li lj =
       let hn = h (nAxis f) in
       let hu = h (uAxis f) in
@@ -120,7 +84,7 @@ module _ (lent marked : ℕ) (shape : Point) (inner : Extent) (accepted : Accept
       (omega (arith, spread-u f i j p, bound-within lent shape inner entered (uAxis f)))
       (omega (arith, spread-v f i j p, bound-within lent shape inner entered (vAxis f)))))
 
-  touches : (i j : ℕ) (p : Point) → Inside inner p → i < roomU f inner p → j < roomV f inner p → Touches lent marked offset (index shape p + j * dv + i * du)
+  touches : (i j : ℕ) (p : Point) → Inside inner p → i < roomU f inner p → j < roomV f inner p → Touches lent marked (sideOffset shape f) (index shape p + j * (vStride shape f) + i * (uStride shape f))
   touches i j p h li lj =
       let some = accepted .entered .held .enough in
       let here = spread-below i j p h (omega arith) (omega arith) in
@@ -143,7 +107,7 @@ module _ (lent marked : ℕ) (shape : Point) (inner : Extent) (accepted : Accept
             each = λ i li. touches i j p h li lj;
             last = omega (arith, spread-below (roomU f inner p) j p h (omega arith) (omega arith));
           };
-          last = omega (arith, zero-mul du, spread-below 0 (roomV f inner p) p h (omega arith) (omega arith));
+          last = omega (arith, zero-mul (uStride shape f), spread-below 0 (roomV f inner p) p h (omega arith) (omega arith));
           wide-some = omega arith;
           high-some = omega arith;
         };
@@ -181,7 +145,7 @@ module _ (lent marked : ℕ) (shape : Point) (inner : Extent) (accepted : Accept
       }
 
   -- A face has no more points than the shape has voxels, and so its tests are bounded.
-  pub few-tests : c .slices .count * (c .rows .count * (c .row .count * voxelTests)) ≤ mostVoxels * voxelTests
+  pub few-tests : faceTests c ≤ mostVoxels * voxelTests
   unfolding faceScan spanOf
   few-tests =
       let n : Axis = nAxis f in
@@ -194,24 +158,26 @@ module _ (lent marked : ℕ) (shape : Point) (inner : Extent) (accepted : Accept
 
   -- ---- the face's group
 
-  module _ (vs marks out : List ℕ) (is : length marks ≡ marked) (listed tests : ℕ) where
+  module _ (vs : List ℕ) (was : Scanned) (is : length (was .marks) ≡ marked) where
+    -- The scan's start: the marks are cleared.
+    abbrev start : Scanned
+    start = record { marks = overwritten (replicate (size shape) 0) (was .marks); output = was .output; tests = was .tests }
+
     -- Cleared bytes tell that nothing is visited.
-    start-same : Same lent shape inner entered f vs (drop (size shape) marks) (output out listed) tests (progress (overwritten (replicate (size shape) 0) marks) out listed tests) fresh
+    start-same : Same lent shape inner entered f vs (drop (size shape) (was .marks)) (was .output) (was .tests) start fresh
     unfolding visited pushedAll
     start-same = record {
-      tells = λ p h. rw (cleared-zero (size shape) marks (index shape p) (index-below shape p (inner-in-shape lent shape inner entered p h)));
-      long = rw (cleared-length (size shape) marks (rw is (accepted .marked))) (rw is (accepted .marked));
-      rest = cleared-rest (size shape) marks;
+      tells = λ p h. rw (cleared-zero (size shape) (was .marks) (index shape p) (index-below shape p (inner-in-shape lent shape inner entered p h)));
+      long = rw (cleared-length (size shape) (was .marks) (rw is (accepted .marked))) (rw is (accepted .marked));
+      rest = cleared-rest (size shape) (was .marks);
       lists = refl;
-      adds = sym (add-zero tests);
+      adds = sym (add-zero (was .tests));
     }
 
-    -- What the scan makes of them is the face's group.
-    pub face-made : (marks′ out′ : List ℕ) (listed′ tests′ : ℕ)
-        → Made (slicesAlong vs c (progress (overwritten (replicate (size shape) 0) marks) out listed tests) (index shape (inner .minimum))) (tests + c .slices .count * (c .rows .count * (c .row .count * voxelTests))) marks′ out′ listed′ tests′
-        → MadeFace (size shape) (listedGroup inner (field shape vs) f) (greedyGroup inner (field shape vs) f .tests) marks out listed tests marks′ out′ listed′ tests′
-    face-made marks′ out′ listed′ tests′ made =
-        let same = group-same lent shape inner entered f vs (drop (size shape) marks) (output out listed) tests _ start-same in
+    -- What the scan makes of it is the face's group.
+    pub face-made : {now : Scanned} → SlicesScanned vs c (index shape (inner .minimum)) start now → FaceMeshed vs shape inner f was now
+    face-made made =
+        let same = group-same lent shape inner entered f vs (drop (size shape) (was .marks)) (was .output) (was .tests) start start-same in
         record {
           is = ap (λ (s : Scanned). s .output) (made .is) ∙ same .lists;
           tests-are = ap (λ (s : Scanned). s .tests) (made .is) ∙ same .adds;
@@ -226,12 +192,9 @@ module _ (lent marked : ℕ) (shape : Point) (inner : Extent) (accepted : Accept
     pub scan-ready : SlicesScan lent marked scan i
     scan-ready = rw (is, minimum-index lent shape inner entered at-i) slices-ready
 
-    pub scan-few : scan .slices .count * (scan .rows .count * (scan .row .count * voxelTests)) ≤ mostVoxels * voxelTests
+    pub scan-few : faceTests scan ≤ mostVoxels * voxelTests
     scan-few = rw is few-tests
 
-    pub scan-made : (n : ℕ) → n ≡ size shape → (vs marks : List ℕ) → length marks ≡ marked → (cleared : List ℕ) → cleared ≡ overwritten (replicate n 0) marks
-        → (out : List ℕ) (listed tests : ℕ) (marks′ out′ : List ℕ) (listed′ tests′ : ℕ)
-        → Made (slicesAlong vs scan (progress cleared out listed tests) i) (tests + scan .slices .count * (scan .rows .count * (scan .row .count * voxelTests))) marks′ out′ listed′ tests′
-        → MadeFace n (listedGroup inner (field shape vs) f) (greedyGroup inner (field shape vs) f .tests) marks out listed tests marks′ out′ listed′ tests′
-    scan-made n all vs marks long cleared first out listed tests marks′ out′ listed′ tests′ made =
-        rw all (face-made vs marks out long listed tests marks′ out′ listed′ tests′ (rw (is, minimum-index lent shape inner entered at-i, first, all) at made))
+    pub scan-made : (vs : List ℕ) (was : Scanned) → length (was .marks) ≡ marked → (n : ℕ) → n ≡ size shape → (marks : List ℕ) → marks ≡ overwritten (replicate n 0) (was .marks)
+        → {now : Scanned} → SlicesScanned vs scan i (record { marks = marks; output = was .output; tests = was .tests }) now → FaceMeshed vs shape inner f was now
+    scan-made vs was long n all marks first made = face-made vs was long (rw (is, minimum-index lent shape inner entered at-i, first, all) at made)

@@ -1,51 +1,14 @@
 -- Marks: which bytes marking a row or a rectangle sets, by index, and that in coordinates they tell which points a group has visited.
-use mathlib.Core.Bool.{Bool, true, false, not, _||_}
-use mathlib.Core.List.{List, [], _∷_, _++_}
-use mathlib.Core.Path.{_≡_, refl, sym, _∙_, ap}
-use Prim.Native.Nat.{ℕ, zero, suc, _+_, _-_, _*_, _≤_, _<_}
-use native.Mathlib.Nat.{add-zero, zero-mul, suc-mul, not-suc-le-zero}
-use native.Mathlib.Omega.{arith}
+use mathlib.Core.List.{List}
+use mathlib.Core.Path.{_≡_, refl, _∙_}
+use Prim.Native.Nat.{ℕ, _+_, _*_, _<_}
 use lib.Dec.{eqb}
 use lib.ListN.{length, getD, set, drop, length-set}
 use borrow.Author.Tests.{eqb-true, eqb-false}
 use lib.Seq.{getD-set-same, getD-set-other, drop-set-lt}
 use Rattle.geometry.proofs.Refusals.{split}
-use Rattle.greedy.specs.Inner.{steps, markAt, markRowAt, markQuadAt}
-
--- ---- what a loop keeps
-
-module _ {S : Type 0} (d : ℕ) (act : S → ℕ → ℕ → S) where
-  -- What each step keeps the loop keeps.
-  pub steps-keep : (Q : S → Type 0) (n a i : ℕ) (s : S) → ((k : ℕ) (s : S) → k < n → Q s → Q (act s (a + k) (i + k * d))) → Q s → Q (steps d act s a i n)
-  unfolding steps
-  steps-keep Q zero a i s keep q = q
-  steps-keep Q (suc n) a i s keep q =
-      steps-keep Q n (a + 1) (i + d) (act s a i)
-      (λ k s h q. let x : a + suc k ≡ a + 1 + k = omega arith in let y : i + suc k * d ≡ i + d + k * d = omega (arith, suc-mul k d) in rw (x, y) at (keep (suc k) s (omega arith) q))
-      (rw (zero-mul, add-zero, add-zero) at (keep 0 s (omega arith) q))
-
-  -- What the m-th step makes so, and each keeps, is so after the loop.
-  pub steps-reach : (P Q : S → Type 0) (n a i : ℕ) (s : S)
-      → ((k : ℕ) (s : S) → k < n → P s → P (act s (a + k) (i + k * d)))
-      → ((k : ℕ) (s : S) → k < n → P s × Q s → P (act s (a + k) (i + k * d)) × Q (act s (a + k) (i + k * d)))
-      → (m : ℕ) → m < n → ((s : S) → P s → Q (act s (a + m) (i + m * d))) → P s → Q (steps d act s a i n)
-  unfolding steps
-  steps-reach P Q zero a i s keep both m h makes p = absurd (not-suc-le-zero h)
-  steps-reach P Q (suc n) a i s keep both zero h makes p =
-      let q : Q (act s a i) = rw (zero-mul, add-zero, add-zero) at (makes s p) in
-      let p′ : P (act s a i) = rw (zero-mul, add-zero, add-zero) at (keep 0 s (omega arith) p) in
-      steps-keep (λ (s : S). P s × Q s) n (a + 1) (i + d) (act s a i)
-      (λ k s h q. let x : a + suc k ≡ a + 1 + k = omega arith in let y : i + suc k * d ≡ i + d + k * d = omega (arith, suc-mul k d) in rw (x, y) at (both (suc k) s (omega arith) q))
-      (p′, q) .1
-  steps-reach P Q (suc n) a i s keep both (suc m) h makes p =
-      let x : (k : ℕ) → a + suc k ≡ a + 1 + k = λ k. omega arith in
-      let y : (k : ℕ) → i + suc k * d ≡ i + d + k * d = λ k. omega (arith, suc-mul k d) in
-      steps-reach P Q n (a + 1) (i + d) (act s a i)
-      (λ k s h p. rw (x k, y k) at (keep (suc k) s (omega arith) p))
-      (λ k s h q. rw (x k, y k) at (both (suc k) s (omega arith) q))
-      m (omega arith)
-      (λ s p. rw (x m, y m) at (makes s p))
-      (rw (zero-mul, add-zero, add-zero) at (keep 0 s (omega arith) p))
+use Rattle.voxels.proofs.Loops.{steps-keep, steps-reach}
+use Rattle.greedy.specs.Marks.{markAt, markRowAt, markQuadAt}
 
 -- ---- marking, by index
 

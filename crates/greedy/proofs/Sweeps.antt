@@ -1,51 +1,54 @@
 -- The scan of a face by indices makes the face's group: a slice is scanned as two loops, and each step keeps what ties the code's state to the rule's.
-use mathlib.Core.Bool.{Bool, true, false, not}
 use mathlib.Core.List.{List, [], _∷_, _++_, map, append-nil}
 use mathlib.Core.Path.{_≡_, refl, sym, _∙_, ap}
 use Prim.Native.Nat.{ℕ, zero, suc, _+_, _-_, _*_, _≤_, _<_}
-use native.Mathlib.Nat.{add-zero, zero-mul, suc-mul, mul-one}
+use native.Mathlib.Nat.{mul-one}
 use native.Mathlib.Omega.{arith}
 use lib.ListN.{length, drop}
 use Rattle.geometry.specs.declared.axis.Axis.{Axis}
 use Rattle.geometry.specs.declared.axis.Axis.the-variants.{X, Y, Z}
 use Rattle.geometry.specs.declared.face.OrientedBlockFace.{OrientedBlockFace}
 use Rattle.geometry.specs.Point.{Point, at, along, put}
-use Rattle.geometry.specs.Axes.{positive, nAxis, uAxis, vAxis}
+use Rattle.geometry.specs.Axes.{nAxis, vAxis}
 use Rattle.geometry.proofs.Refusals.{split}
-use Rattle.voxels.specs.declared.extent.Extent.{Extent}
 use Rattle.voxels.specs.Shape.{size, index, stride, Field, field}
-use Rattle.voxels.specs.Extent.{Inside, every, upTo, scan}
-use Rattle.voxels.specs.Visible.{visibilityOffset}
-use Rattle.voxels.specs.Inner.{Entered, Output, pushed, pushedAll}
+use Rattle.voxels.specs.Extent.{Inside, upTo, scan}
+use Rattle.voxels.specs.Loop.{looped, stepBy, every, Stand, stand, onBy, andNext, steps}
+use Rattle.voxels.specs.Entered.{Entered}
 use Rattle.voxels.proofs.Places.{index-at, index-below}
-use Rattle.voxels.proofs.Scan.{each-same, inside-at}
+use Rattle.voxels.proofs.Loops.{onward-by, onward-both, loops-agree, loops-same}
+use Rattle.voxels.proofs.Scan.{inside-at}
 use Rattle.voxels.proofs.Entered.{inner-in-shape}
-use Rattle.voxels.proofs.Pushed.{pushed-append}
-use Rattle.voxels.proofs.Groups.{map-one-more}
-use Rattle.greedy.specs.declared.face_scan.FaceScan.{FaceScan}
-use Rattle.greedy.specs.Group.{sliceAt, sweep, passes, Choice, State, scanned, swept, fresh, group, Pick, roomU, roomV}
-use Rattle.greedy.specs.Merger.{voxelMerger}
-use Rattle.greedy.specs.Greedy.{listed, quadNumbers, numbersOf, greedyGroup}
-use Rattle.greedy.specs.Demand.{groupFrom, quadOf}
-use Rattle.greedy.specs.Inner.{steps, quadAt, faster, slower, spot, spanOf, faceScan, Scanned, laidBy, laidAt, scannedAt, rowAlong, sliceAlong, slicesAlong}
-use Rattle.greedy.proofs.Loops.{quad-wide, quad-high}
-use Rattle.greedy.proofs.Spread.{spread, spread-index, spread-inside}
+use Rattle.listing.specs.Pushed.{Output, pushed, pushedAll}
+use Rattle.listing.proofs.Pushed.{pushed-append}
+use Rattle.listing.proofs.Groups.{map-one-more}
+use Rattle.rules.specs.Group.{sliceAt, sweep, passes, Choice, State, scanned, swept, fresh, group, Pick, roomU, roomV, quadOf, groupFrom}
+use Rattle.rules.specs.Merger.{voxelMerger}
+use Rattle.rules.specs.Greedy.{greedyGroup}
+use Rattle.rules.proofs.Spread.{spread, spread-index, spread-inside}
+use Rattle.greedy.specs.Greedy.{listed, quadNumbers, numbersOf}
+use Rattle.greedy.specs.Walks.{quadAt}
+use Rattle.greedy.specs.Spans.{faster, slower, spot, spanOf, faceScan, uStride, vStride, sideOffset}
+use Rattle.greedy.specs.Scans.{Scanned, laidBy, laidAt, scannedAt, rowAlong, sliceAlong, slicesAlong}
+use Rattle.greedy.proofs.Rectangles.{quad-wide, quad-high}
 use Rattle.greedy.proofs.Marks.{quad-length, quad-rest}
 use Rattle.greedy.proofs.Told.{Tells, tells-more, needs-same, quad-same}
+use Rattle.voxels.specs.declared.extent.Extent.{Extent}
+use Rattle.greedy.specs.declared.face_scan.FaceScan.{FaceScan}
 
 -- ---- a slice as two loops
 
 -- A loop over one number.
 only : {A : Type 0} (g : ℕ → List A) (k : ℕ) → upTo k (k + 1) g ≡ g k
-unfolding every
+unfolding looped
 only g k = let one : k + 1 - k ≡ suc zero = omega arith in rw one (append-nil (g k))
 
 -- The points of a slice, row by row.
 pub slice-scan : (n : Axis) (e : Extent) (k : ℕ) → scan (sliceAt n e k)
     ≡ upTo (along (slower n) (e .minimum)) (along (slower n) (e .bound)) (λ (j : ℕ). upTo (along (faster n) (e .minimum)) (along (faster n) (e .bound)) (λ (i : ℕ). spot n k j i ∷ []))
 unfolding scan sliceAt put along spot
-slice-scan X e k = each-same _ _ _ _ (λ j. each-same _ _ _ _ (λ i. only (λ (x : ℕ). at x i j ∷ []) k))
-slice-scan Y e k = each-same _ _ _ _ (λ j. only (λ (y : ℕ). upTo (e .minimum .x) (e .bound .x) (λ (x : ℕ). at x y j ∷ [])) k)
+slice-scan X e k = loops-same _ _ _ _ _ _ _ _ _ (λ j _. loops-same _ _ _ _ _ _ _ _ _ (λ i _. only (λ (x : ℕ). at x _ _ ∷ []) k))
+slice-scan Y e k = loops-same _ _ _ _ _ _ _ _ _ (λ j _. only (λ (y : ℕ). upTo (e .minimum .x) (e .bound .x) (λ (x : ℕ). at x y _ ∷ [])) k)
 slice-scan Z e k = only (λ (z : ℕ). upTo (e .minimum .y) (e .bound .y) (λ (y : ℕ). upTo (e .minimum .x) (e .bound .x) (λ (x : ℕ). at x y z ∷ []))) k
 
 -- Where a point of it lies, by its steps from the minimum,
@@ -76,28 +79,18 @@ module _ (f : OrientedBlockFace) (v : Field) (e : Extent) (choice : Choice) wher
   steps-swept : {S : Type 0} (R : S → State → Type 0) (d : ℕ) (act : S → ℕ → ℕ → S) (g : ℕ → List Point) (n a i : ℕ) (s : S) (t : State)
       → ((k : ℕ) (s : S) (t : State) → k < n → R s t → R (act s (a + k) (i + k * d)) (swept f v e choice t (g (a + k))))
       → R s t → R (steps d act s a i n) (swept f v e choice t (every 1 a n g))
-  unfolding steps every swept
-  steps-swept R d act g zero a i s t keep r = r
-  steps-swept R d act g (suc n) a i s t keep r =
-      rw (swept-append t (g a) (every 1 (a + 1) n g))
-      (steps-swept R d act g n (a + 1) (i + d) (act s a i) (swept f v e choice t (g a))
-      (λ k s t h r. let x : a + suc k ≡ a + 1 + k = omega arith in let y : i + suc k * d ≡ i + d + k * d = omega (arith, suc-mul k d) in rw (x, y) at (keep (suc k) s t (omega arith) r))
-      (rw (zero-mul, add-zero, add-zero) at (keep 0 s t (omega arith) r)))
+  unfolding swept
+  steps-swept {S} R d act g n a i s t keep r =
+      loops-agree {join = andNext} (λ (step : S → S) (l : List Point). (s : S) (t : State) → R s t → R (step s) (swept f v e choice t l)) (λ s t r. r)
+      (λ step step′ l m first rest s t r. rw (swept-append t l m) (rest _ _ (first s t r)))
+      (onBy d) (λ (p : Stand) (s : S). act s (p .coordinate) (p .index)) (stepBy 1) g n (stand a i) a
+      (λ k h s t r. rw (onward-both d a i k, onward-by 1 a k, mul-one) (keep k s t h r)) s t r
 
 -- ---- the group
 
 module _ (lent : ℕ) (shape : Point) (inner : Extent) (entered : Entered lent shape inner) (f : OrientedBlockFace) (vs : List ℕ) (bytes : List ℕ) (before : Output) (made : ℕ) where
   abbrev v : Field
   v = field shape vs
-
-  abbrev du : ℕ
-  du = stride shape (uAxis f)
-
-  abbrev dv : ℕ
-  dv = stride shape (vAxis f)
-
-  abbrev offset : ℕ
-  offset = visibilityOffset (positive (f .«n_sign»)) (stride shape (nAxis f))
 
   abbrev c : FaceScan
   c = faceScan shape inner f
@@ -113,7 +106,7 @@ module _ (lent : ℕ) (shape : Point) (inner : Extent) (entered : Entered lent s
   module _ (s : Scanned) (t : State) (same : Same s t) (p : Point) (h : Inside inner p) where
     -- A rectangle within the room that is laid by indices is laid by the rule, whatever picked it.
     module _ (q : Pick) (wide : q .width ≤ roomU f inner p) (high : q .height ≤ roomV f inner p) where
-      within : (x y : ℕ) → x < q .width → y < q .height → index shape p + y * dv + x * du < size shape
+      within : (x y : ℕ) → x < q .width → y < q .height → index shape p + y * (vStride shape f) + x * (uStride shape f) < size shape
       within x y lx ly =
           rw (sym (spread-index f shape x y p))
           (index-below shape (spread f x y p) (inner-in-shape lent shape inner entered _ (spread-inside f inner x y p h (omega (arith, wide)) (omega (arith, high)))))
@@ -122,8 +115,8 @@ module _ (lent : ℕ) (shape : Point) (inner : Extent) (entered : Entered lent s
       unfolding laidBy faceScan pushedAll
       laid-by = record {
         tells = tells-more lent shape inner entered f (t .quads) (s .marks) (quadOf p q) (same .tells) (same .long) h wide high;
-        long = rw (quad-length du (q .width) dv (q .height) (s .marks) (index shape p)) (same .long);
-        rest = quad-rest du (q .width) dv (q .height) (size shape) (s .marks) (index shape p) within ∙ same .rest;
+        long = rw (quad-length (uStride shape f) (q .width) (vStride shape f) (q .height) (s .marks) (index shape p)) (same .long);
+        rest = quad-rest (uStride shape f) (q .width) (vStride shape f) (q .height) (size shape) (s .marks) (index shape p) within ∙ same .rest;
         lists =
             ap (λ (o : Output). pushed quadNumbers numbersOf o (listed (quadOf p q))) (same .lists)
             ∙ sym (pushed-append quadNumbers numbersOf before (map listed (t .quads)) (listed (quadOf p q) ∷ []))
@@ -135,7 +128,7 @@ module _ (lent : ℕ) (shape : Point) (inner : Extent) (entered : Entered lent s
     abbrev picked : Pick
     picked = voxelMerger f v (t .quads) p (roomU f inner p) (roomV f inner p)
 
-    pick-same : quadAt vs (s .marks) offset du dv (roomU f inner p) (roomV f inner p) (index shape p) ≡ picked
+    pick-same : quadAt vs (s .marks) (sideOffset shape f) (uStride shape f) (vStride shape f) (roomU f inner p) (roomV f inner p) (index shape p) ≡ picked
     pick-same = quad-same lent shape inner entered f vs (t .quads) (s .marks) (same .tells) p h
 
     laid-same : Same (laidAt vs c s p (index shape p)) (record { quads = t .quads ++ (quadOf p picked ∷ []); tests = t .tests + 1 + picked .tests })
@@ -144,8 +137,8 @@ module _ (lent : ℕ) (shape : Point) (inner : Extent) (entered : Entered lent s
         let hv = h (vAxis f) in
         rw pick-same
         (laid-by picked
-        (quad-wide vs (s .marks) offset du dv (roomU f inner p) (roomV f inner p) (index shape p) (sym pick-same))
-        (quad-high vs (s .marks) offset du dv (roomU f inner p) (roomV f inner p) (index shape p) (sym pick-same) (omega arith)))
+        (quad-wide vs (s .marks) (sideOffset shape f) (uStride shape f) (vStride shape f) (roomU f inner p) (roomV f inner p) (index shape p) (sym pick-same))
+        (quad-high vs (s .marks) (sideOffset shape f) (uStride shape f) (vStride shape f) (roomU f inner p) (roomV f inner p) (index shape p) (sym pick-same) (omega arith)))
 
     -- A voxel that is scanned by its index is scanned by the rule.
     pub scanned-same : Same (scannedAt vs c s p (index shape p)) (scanned f v inner (voxelMerger f v) t p)

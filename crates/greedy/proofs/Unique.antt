@@ -16,4 +16,4 @@ pub greedy-quads-unique : (κs : Lifetimes.Lfts 3) (a : World.ArgsD greedy_quads
     → (r ≡ r′) × (s .1 .1 .1 .1 .1 .0 .now ≡ s′ .1 .1 .1 .1 .1 .0 .now) × (s .1 .1 .1 .1 .1 .1 .0 .now ≡ s′ .1 .1 .1 .1 .1 .1 .0 .now)
 greedy-quads-unique κs a r r′ s s′ p q =
     let e = p ∙ sym q in
-    (ap (λ (o : GreedyOutcome). o .answer) e, ap (λ (o : GreedyOutcome). o .visitedBytes) e, ap (λ (o : GreedyOutcome). o .out) e)
+    (ap (λ (o : GreedyOutcome). record { mesh = o .mesh .answer; tests = o .tests }) e, ap (λ (o : GreedyOutcome). o .visitedBytes) e, ap (λ (o : GreedyOutcome). o .mesh .out) e)

@@ -1,8 +1,8 @@
--- Walks: what has passed and what is left make the whole. And the tests by index that a walk makes.
+-- The walk by indices, as the code makes it: what has passed and what is left make the whole; and the tests that it makes.
 use mathlib.Core.Bool.{Bool, true, false}
 use mathlib.Core.List.{List}
 use mathlib.Core.Path.{_≡_, sym, _∙_, ap}
-use Prim.Native.Nat.{ℕ, zero, suc, _+_, _-_, _*_, _≤_, _<_}
+use Prim.Native.Nat.{ℕ, zero, _+_, _-_, _*_, _≤_, _<_}
 use native.Mathlib.Nat.{add-zero, zero-add, add-assoc, sub-zero, zero-mul, one-mul, add-mul, mul-le-mul-right}
 use native.Mathlib.Omega.{arith}
 use lib.Dec.{eqb}
@@ -11,21 +11,12 @@ use borrow.Author.Tests.{eq-eqb, ne-eqb}
 use Rattle.geometry.proofs.Refusals.{split}
 use Rattle.voxels.specs.Voxel.{class, shows, uniform}
 use Rattle.voxels.specs.Visible.{offsetIndex}
-use Rattle.voxels.specs.Inner.{mostVoxels}
-use Rattle.voxels.proofs.Asked.{more, done}
-use Rattle.voxels.proofs.Places.{below-last}
-use Rattle.greedy.specs.Merger.{Walked, walk, pick}
-use Rattle.greedy.specs.Inner.{walked, after, walkedRows, afterRows, stepBy, needsAt, joinsAt, rowAt, quadAt, RowReady, QuadReady}
-
--- A walk's first step, from its test.
-module _ {A : Type 0} (ok : A → Bool) (next : A → A) (a : A) (n : ℕ) where
-  pub walk-passes : ok a ≡ true → walked ok next a (suc n) ≡ after 1 (walked ok next (next a) n)
-  unfolding walked
-  walk-passes e = rw (e, walked)
-
-  pub walk-fails : ok a ≡ false → walked ok next a (suc n) ≡ walk 0 1
-  unfolding walked
-  walk-fails e = rw (e, walked)
+use Rattle.voxels.specs.Loop.{stepBy}
+use Rattle.voxels.specs.Entered.{mostVoxels}
+use Rattle.voxels.proofs.Loops.{more, done, Underway}
+use Rattle.rules.specs.Merger.{Walked, walk, pick, walked, walkedRows}
+use Rattle.rules.proofs.Walks.{after, afterRows, walk-passes, walk-fails, rows-whole, rows-broken, walked-at-most}
+use Rattle.greedy.specs.Walks.{needsAt, joinsAt, Touches, rowAt, quadAt, WalkReady, QuadReady}
 
 -- A loop that walks, k of most passed.
 module _ {A : Type 0} (ok : A → Bool) (next : A → A) where
@@ -45,16 +36,6 @@ module _ {A : Type 0} (ok : A → Bool) (next : A → A) where
       let stay : walk k k ≡ after k (walked ok next a zero) = rw add-zero in
       stay ∙ rw (done k most h) at l
 
--- A row's first step among rows.
-module _ {A : Type 0} (row : A → Walked) (width : ℕ) (next : A → A) (a : A) (n : ℕ) where
-  pub rows-whole : row a .got ≡ width → walkedRows row width next a (suc n) ≡ afterRows 1 (row a .tests) (walkedRows row width next (next a) n)
-  unfolding walkedRows
-  rows-whole e = rw (eq-eqb (row a .got) width e, walkedRows)
-
-  pub rows-broken : (row a .got ≡ width → ⊥) → walkedRows row width next a (suc n) ≡ walk 0 (row a .tests)
-  unfolding walkedRows
-  rows-broken d = rw (ne-eqb (row a .got) width d, walkedRows)
-
 -- A loop over rows, k whole ones of most and t tests so far.
 module _ {A : Type 0} (row : A → Walked) (width : ℕ) (next : A → A) where
   pub rows-on : (a : A) (k most t : ℕ) (w r : Walked) → k < most → r ≡ row a → r .got ≡ width → afterRows k t (walkedRows row width next a (most - k)) ≡ w
@@ -72,13 +53,6 @@ module _ {A : Type 0} (row : A → Walked) (width : ℕ) (next : A → A) where
   rows-done a k most t w h l =
       let stay : walk k t ≡ afterRows k t (walkedRows row width next a zero) = rw (add-zero, add-zero) in
       stay ∙ rw (done k most h) at l
-
--- A row is not wider than asked.
-pub walked-at-most : {A : Type 0} (ok : A → Bool) (next : A → A) (n : ℕ) (a : A) → walked ok next a n .got ≤ n
-unfolding walked
-walked-at-most ok next zero a = omega arith
-walked-at-most ok next (suc n) a =
-    split (ok a) (λ t. rw (t, walked) (omega (arith, walked-at-most ok next n (next a)))) (λ f. rw (f, walked) (omega arith))
 
 -- ---- tests
 
@@ -114,13 +88,17 @@ pub row-at-most : (vs marks : List ℕ) (off first d most i : ℕ) {w : Walked} 
 unfolding rowAt
 row-at-most vs marks off first d most i e = rw e (walked-at-most (joinsAt vs marks off first) (stepBy d) most i)
 
+-- In a loop over a row's voxels, what the test of the next one reads was lent.
+pub touches-at : {vn mn off i d most : ℕ} → WalkReady vn mn off i d most → {k j : ℕ} → Underway d i most k j → k < most → Touches vn mn off j
+touches-at ready {k} l h = rw (l .place) (ready .each k h)
+
 -- Part of a row is ready where the row is.
-pub row-less : {vn mn off i d : ℕ} (m n : ℕ) → m ≤ n → RowReady vn mn off i d n → RowReady vn mn off i d m
+pub row-less : {vn mn off i d : ℕ} (m n : ℕ) → m ≤ n → WalkReady vn mn off i d n → WalkReady vn mn off i d m
 row-less {d = d} m n le l = record { each = λ k lt. l .each k (omega arith); last = omega (arith, l .last, mul-le-mul-right {m = m} {n = n} d le) }
 
 module _ (vn mn off i du wide dv high : ℕ) (ready : QuadReady vn mn off i du wide dv high) where
   -- The first row of a rectangle is ready,
-  pub first-row : RowReady vn mn off i du wide
+  pub first-row : WalkReady vn mn off i du wide
   first-row = rw (zero-mul, add-zero) at (ready .each 0 (ready .high-some))
 
   pub first-voxel : i < vn
@@ -130,13 +108,14 @@ module _ (vn mn off i du wide dv high : ℕ) (ready : QuadReady vn mn off i du w
   first-step = omega (arith, ready .last, one-mul dv, mul-le-mul-right {m = 1} {n = high} dv (ready .high-some))
 
   -- and so is each after it, in part.
-  pub next-row : (w k j : ℕ) → w ≤ wide → k < high - 1 → j ≡ i + dv + k * dv → RowReady vn mn off j du w
-  next-row w k j le h e =
-      let at-j : i + (k + 1) * dv ≡ j = omega (arith, add-mul k 1 dv, one-mul dv) in
+  pub next-row : (w k j : ℕ) → w ≤ wide → k < high - 1 → Underway dv (i + dv) (high - 1) k j → WalkReady vn mn off j du w
+  next-row w k j le h l =
+      let at-j : i + (k + 1) * dv ≡ j = omega (arith, l .place, add-mul k 1 dv, one-mul dv) in
       row-less w wide le (rw at-j at (ready .each (k + 1) (omega arith)))
 
-  pub rows-place : (k j : ℕ) → k < high - 1 → j ≡ i + dv + k * dv → j + dv ≤ 2 * mostVoxels
-  rows-place k j h e = omega (arith, ready .last, below-last (i + dv) k (high - 1) dv j h e, whole (high - 1) dv high (omega (arith, ready .high-some)))
+  -- The index at the end of the rows fits.
+  pub rows-last : i + dv + (high - 1) * dv ≤ 2 * mostVoxels
+  rows-last = omega (arith, ready .last, whole (high - 1) dv high (omega (arith, ready .high-some)))
     where
       whole : (m d n : ℕ) → n ≡ m + 1 → i + d + m * d ≡ i + n * d
       whole m d n e = omega (arith, add-mul m 1 d, one-mul d, ap (λ (k : ℕ). k * d) e)

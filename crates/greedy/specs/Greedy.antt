@@ -1,23 +1,22 @@
--- Greedy meshing: document 01, 'Greedy meshing', and of 'Refusal numbers' what stands below the table; greedy.rs lines 58 to 111.
+-- The whole outcome of greedy meshing: document 01, 'Greedy meshing', and of 'Refusal numbers' what stands below the table. Its groups and their tests are the rules' (crates/rules/specs/Greedy.antt).
 use mathlib.Core.List.{List, [], _∷_, map}
-use Prim.Native.Nat.{ℕ, _+_}
+use Prim.Native.Nat.{ℕ}
 use lib.ListN.{length, replicate}
 use Rattle.geometry.specs.declared.quad.UnorientedQuad.{UnorientedQuad}
 use Rattle.geometry.specs.declared.face.OrientedBlockFace.{OrientedBlockFace}
-use Rattle.geometry.specs.Refusal.{Answer, accepted, refused, checked, follow}
+use Rattle.geometry.specs.Refusal.{Answer, checked}
 use Rattle.geometry.specs.Point.{Point}
 use Rattle.voxels.specs.declared.extent.Extent.{Extent}
 use Rattle.voxels.specs.Shape.{size, Field, field}
 use Rattle.voxels.specs.Extent.{interior}
 use Rattle.voxels.specs.Checks.{greedyChecks}
-use Rattle.voxels.specs.Listing.{overwritten, Laid, lay, atExit}
+use Rattle.listing.specs.Listing.{overwritten, Laid, atExit}
+use Rattle.listing.specs.Outcome as listing
+use Rattle.listing.specs.Outcome.{reported, listedAfter, MeshOutcome, listedOutcome}
+use Rattle.rules.specs.Greedy.{greedyGroup, greedyTests}
 use Rattle.greedy.specs.declared.GreedyAnswer.{GreedyAnswer}
-use Rattle.greedy.specs.Group.{State, group}
-use Rattle.greedy.specs.Merger.{voxelMerger}
 
--- The greedy group of a face, with the tests made for it: the walk picks the rectangles.
-unfoldable pub greedyGroup : Extent → Field → OrientedBlockFace → State
-greedyGroup inner v f = group f v inner (voxelMerger f v)
+-- ---- what is listed
 
 -- A quad as it is listed.
 pub record Listed : Type 0 where
@@ -41,40 +40,34 @@ numbersOf l =
 abbrev pub listedGroup : Extent → Field → OrientedBlockFace → List Listed
 listedGroup inner v f = map listed (greedyGroup inner v f .quads)
 
--- "Six groups again, each with its own cleared visited marks; the same face given twice gives two equal groups" (108 to 110).
-unfoldable pub greedyGroups : Extent → Field → List OrientedBlockFace → List (List Listed)
-greedyGroups inner v faces = map (listedGroup inner v) faces
+-- The six groups, listed.
+unfoldable pub listedGroups : Extent → Field → List OrientedBlockFace → List (List Listed)
+listedGroups inner v faces = map (listedGroup inner v) faces
 
--- "the tests summed over the six faces"
-unfoldable pub greedyTests : Extent → Field → List OrientedBlockFace → ℕ
-greedyTests inner v [] = 0
-greedyTests inner v (f ∷ fs) = greedyGroup inner v f .tests + greedyTests inner v fs
+-- ---- the outcome
 
--- Document 01's answer as the struct that the call gives, from the tests and the counts or the refusal: "A refusal gives zeros for all counts." The tests are zero then too.
-abbrev pub greedyAnswer : ℕ → Answer (List ℕ) → GreedyAnswer
-greedyAnswer tests (accepted counts) = record { refusal = 0; place = 0; counts = counts; tests = tests }
-greedyAnswer tests (refused n p) = record { refusal = n; place = p; counts = replicate 6 0; tests = 0 }
-
--- All that a call leaves: its answer, and the visited bytes and the output at exit.
+-- All that a call leaves: what every mesher leaves, the tests, and the visited bytes at exit.
 pub record GreedyOutcome : Type 0 where
-  pub answer : GreedyAnswer
+  pub mesh : MeshOutcome
+  pub tests : ℕ
   pub visitedBytes : List ℕ
-  pub out : List ℕ
 
 -- The outcome of an answer, of visited bytes and of an output.
 abbrev pub outcome : GreedyAnswer → List ℕ → List ℕ → GreedyOutcome
-outcome answer bytes out = record { answer = answer; visitedBytes = bytes; out = out }
+outcome answer bytes out = record { mesh = listing.outcome (answer .mesh) out; tests = answer .tests; visitedBytes = bytes }
 
--- The whole outcome of greedy meshing. It refuses by 1 to 8, then by 9; otherwise the answer has the number of quads of each group, and the tests. Where the entry checks pass
--- the output holds the listing, as far as it fits, and "the first X·Y·Z visited bytes are 0, the rest unchanged, whatever they held before". (The Rust's own vector is as long
--- as the voxels lent, 98.)
+-- The outcome of so many tests, of visited bytes and of what listing leaves. "A refusal gives zeros for all counts", and the tests are zero then too.
+abbrev pub listedWith : ℕ → List ℕ → Laid → GreedyOutcome
+listedWith tests bytes laid = record { mesh = listedOutcome laid; tests = reported (laid .answer) tests; visitedBytes = bytes }
+
+-- Greedy meshing of a field's interior after an entry, in a shape of so many voxels: the entry refuses, then 9; otherwise the answer has the number of quads of each group, and "the tests summed over the six faces". Where the entry
+-- passes the output holds the listing, as far as it fits, and "the first X·Y·Z visited bytes are 0, the rest unchanged, whatever they held before". (The Rust's own vector is as long as the voxels
+-- lent, greedy.rs 98.)
+unfoldable pub greedyFrom : Answer (Unit {0}) → ℕ → Extent → Field → List OrientedBlockFace → List ℕ → List ℕ → GreedyOutcome
+greedyFrom entry voxels inner v faces bytes out =
+    listedWith (greedyTests inner v faces) (atExit entry (overwritten (replicate voxels 0) bytes) bytes) (listedAfter entry quadNumbers numbersOf (listedGroups inner v faces) out)
+
+-- The whole outcome of a call: of the block's own field, after 1 to 8.
 unfoldable pub greedyQuads : List ℕ → Point → Point → Point → List OrientedBlockFace → List ℕ → List ℕ → GreedyOutcome
 greedyQuads voxels shape min max faces bytes out =
-    let inner : Extent = interior min max in
-    let v : Field = field shape voxels in
-    let entry : Answer (Unit {0}) = checked (greedyChecks voxels shape min max faces (length bytes)) in
-    let laid : Laid = lay quadNumbers numbersOf (greedyGroups inner v faces) out in
-    outcome
-    (greedyAnswer (greedyTests inner v faces) (follow entry (laid .answer)))
-    (atExit entry (overwritten (replicate (size shape) 0) bytes) bytes)
-    (atExit entry (laid .out) out)
+    greedyFrom (checked (greedyChecks voxels shape min max faces (length bytes))) (size shape) (interior min max) (field shape voxels) faces bytes out

@@ -1,10 +1,12 @@
--- To be read in this order.
-pub mod Group
-pub mod Merger
+-- To be read in this order, after the rules of meshing (crates/rules/specs).
+-- The whole outcome of a call.
 pub mod Greedy
-pub mod Demand
-pub mod Drawn
+-- Demand 3, of a call.
 pub mod Call
-pub mod Table
--- For private contracts alone:
-pub mod Inner
+-- Document 01's examples as calls.
+pub mod Calls
+-- For private contracts alone, file by file as the source:
+pub mod Walks
+pub mod Marks
+pub mod Spans
+pub mod Scans

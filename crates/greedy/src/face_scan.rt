@@ -1,7 +1,8 @@
 // What the scan of a face computes once, before it reads a voxel: the first lines of the Rust's
 // `greedy_quads_for_face`, with the order in which a slice is scanned.
 ghost use mathlib.Core.Path.{_≡_};
-ghost use Rattle.greedy.specs.Inner as rule;
+ghost use Rattle.voxels.specs.Entered.{Interior};
+ghost use Rattle.greedy.specs.Spans as rule;
 use geometry::axis::Axes;
 use geometry::axis::Axis;
 use geometry::face::OrientedBlockFace;
@@ -81,7 +82,7 @@ pub(crate) fn spot(n: Axis, slice: u32, row: u32, place: u32) -> UVec3
 impl Span {
     // The loop through the interior of an accepted box along an axis.
     fn new(voxels_shape: UVec3, interior: Extent, axis: Axis) -> Span
-        requires { ⌜ rule.Interior «voxels_shape» interior ⌝ }
+        requires { ⌜ Interior «voxels_shape» interior ⌝ }
         ensures { λ r. ⌜ r ≡ rule.spanOf «voxels_shape» interior axis ⌝ }
     {
         let minimum = interior.minimum;
@@ -101,7 +102,7 @@ impl Span {
 impl FaceScan {
     // How the interior of an accepted box is scanned for a face.
     pub(crate) fn new(voxels_shape: UVec3, interior: Extent, face: OrientedBlockFace) -> FaceScan
-        requires { ⌜ rule.Interior «voxels_shape» interior ⌝ }
+        requires { ⌜ Interior «voxels_shape» interior ⌝ }
         ensures { λ r. ⌜ r ≡ rule.faceScan «voxels_shape» interior face ⌝ }
     {
         let permutation = face.permutation;

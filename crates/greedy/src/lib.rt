@@ -7,13 +7,14 @@
 // than their test takes.
 ghost use mathlib.Core.Path.{_≡_};
 ghost use Prim.Native.Nat.{_+_, _*_, _<_, _≤_};
-ghost use lib.ListN.{length, replicate};
-ghost use Rattle.geometry.specs.Refusal as refusal;
+ghost use lib.ListN.{length};
+ghost use Rattle.geometry.specs.Refusal.{accepted};
+ghost use Rattle.voxels.specs.Entered.{mostVoxels};
+ghost use Rattle.listing.specs.Pushed.{output, pushed};
+ghost use Rattle.greedy.specs.Greedy.{quadNumbers, numbersOf, listed, outcome, greedyFrom, greedyQuads};
+ghost use Rattle.greedy.specs.Walks.{Touches, needsAt, WalkReady, Idle};
+ghost use Rattle.greedy.specs.Scans.{progress, SpotReady, RowScan, SliceScan, SlicesScan, voxelTests, rowTests, sliceTests, faceTests, ampleTests, RoomFor, Accepted, QuadLaid, RowScanned, SliceScanned, SlicesScanned, FaceMeshed, FacesMeshed};
 ghost use Rattle.voxels.specs.Shape as shape;
-ghost use Rattle.voxels.specs.Listing as listing;
-ghost use Rattle.voxels.specs.Inner.{mostVoxels, output, pushed};
-ghost use Rattle.greedy.specs.Greedy.{quadNumbers, numbersOf, listed, greedyGroup, listedGroup, greedyGroups, greedyTests, greedyAnswer, outcome, greedyQuads};
-ghost use Rattle.greedy.specs.Inner.{Touches, needsAt, RowReady, Idle, SpotReady, RowScan, SliceScan, SlicesScan, voxelTests, ampleTests, Made, MadeFace, MadeFaces, Accepted, progress, laidAt, rowAlong, sliceAlong, slicesAlong, laidOutcome};
 
 mod face_scan;
 mod merge_strategy;
@@ -22,12 +23,12 @@ mod visited;
 use crate::face_scan::FaceScan;
 use geometry::face::OrientedBlockFace;
 use geometry::vector::UVec3;
+use listing::MeshAnswer;
 use voxels::bounds;
 use voxels::bounds::EntryAnswer;
 use voxels::extent::Extent;
 use voxels::index::Stride;
 use voxels::index::VoxelIndex;
-use voxels::refusal;
 use voxels::voxel;
 
 // How many numbers a listed quad has: minimum x, y, z, width, height.
@@ -35,12 +36,8 @@ pub const QUAD_NUMBERS: usize = 5;
 
 // What greedy meshing answers.
 pub struct GreedyAnswer {
-    // The refusal number, or 0 where the call was accepted.
-    pub refusal: u32,
-    // The refusal's place, or 0.
-    pub place: u64,
-    // How many quads each of the six groups has. All are 0 where the call was refused.
-    pub counts: [u64; 6],
+    // The refusal, its place and the counts.
+    pub mesh: MeshAnswer,
     // The voxel tests, summed over the six faces; 0 where the call was refused.
     pub tests: u64,
 }
@@ -75,31 +72,13 @@ fn face_needs_mesh(
     voxel::shows_face(voxel, voxels[j])
 }
 
-// Lists a quad: writes it where there is room.
-fn push(
-    out: &mut [u32],
-    capacity: usize,
-    quads: usize,
-    minimum: UVec3,
-    width: u32,
-    height: u32,
-) -> usize
-    requires { ⌜ (capacity ≡ listing.capacity quadNumbers (length (now out))) × (quads ≤ ampleTests) ⌝ }
+// Lists a quad: its minimum's three numbers, its width and its height.
+fn push(out: &mut [u32], quads: usize, minimum: UVec3, width: u32, height: u32) -> usize
+    requires { ⌜ quads ≤ ampleTests ⌝ }
     ensures { λ r. ⌜ output (now (out .exit)) r ≡ pushed quadNumbers numbersOf (output (now (out .entry)) quads) (listed (record { minimum = minimum; width = width; height = height })) ⌝ }
 {
-    if quads < capacity {
-        let x = quads * QUAD_NUMBERS;
-        let y = x + 1;
-        let z = y + 1;
-        let w = z + 1;
-        let h = w + 1;
-        out[x] = minimum.x;
-        out[y] = minimum.y;
-        out[z] = minimum.z;
-        out[w] = width;
-        out[h] = height;
-        return quads + 1;
-    }
+    let item = [minimum.x, minimum.y, minimum.z, width, height];
+    listing::push(out, quads, &item);
     quads + 1
 }
 
@@ -108,38 +87,39 @@ fn lay_quad(
     voxels: &[u16],
     visited: &mut [u8],
     out: &mut [u32],
-    capacity: usize,
     before: Progress,
     scan: FaceScan,
     minimum: UVec3,
     min_index: VoxelIndex,
 ) -> Progress
-    requires { ⌜ (capacity ≡ listing.capacity quadNumbers (length (now out))) × (before .listed ≤ before .tests) × (before .tests + voxelTests ≤ ampleTests) ⌝ }
+    requires { ⌜ RoomFor voxelTests (progress (now visited) (now out) before) ⌝ }
     requires { ⌜ SpotReady (length (now voxels)) (length (now visited)) scan minimum («min_index» .0) ⌝ }
-    ensures { λ r. ⌜ Made (laidAt (now (voxels .entry)) scan (progress (now (visited .entry)) (now (out .entry)) (before .listed) (before .tests)) minimum («min_index» .0)) (before .tests + voxelTests) (now (visited .exit)) (now (out .exit)) (r .listed) (r .tests) ⌝ }
+    ensures { λ r. ⌜ QuadLaid (now (voxels .entry)) scan minimum («min_index» .0) (progress (now (visited .entry)) (now (out .entry)) before) (progress (now (visited .exit)) (now (out .exit)) r) ⌝ }
 {
     let axes = scan.axes;
     let u = axes.u;
     let v = axes.v;
-    let bound = scan.bound;
-    let u_stride = scan.u_stride;
-    let v_stride = scan.v_stride;
-    let max_width = u.coordinate(bound) - u.coordinate(minimum);
-    let max_height = v.coordinate(bound) - v.coordinate(minimum);
+    let max_width = u.coordinate(scan.bound) - u.coordinate(minimum);
+    let max_height = v.coordinate(scan.bound) - v.coordinate(minimum);
     let quad = merge_strategy::find_quad(
         voxels,
         visited,
         min_index,
         max_width,
         max_height,
-        u_stride,
-        v_stride,
+        scan.u_stride,
+        scan.v_stride,
         scan.visibility_offset,
     );
-    let width = quad.width;
-    let height = quad.height;
-    visited::mark_quad(visited, min_index, u_stride, width, v_stride, height);
-    let listed = push(out, capacity, before.listed, minimum, width, height);
+    visited::mark_quad(
+        visited,
+        min_index,
+        scan.u_stride,
+        quad.width,
+        scan.v_stride,
+        quad.height,
+    );
+    let listed = push(out, before.listed, minimum, quad.width, quad.height);
     let tests = before.tests + 1 + quad.tests;
     Progress { listed, tests }
 }
@@ -153,7 +133,7 @@ fn idle(
     delta: Stride,
     most: u32,
 ) -> u32
-    requires { ⌜ RowReady (length (now voxels)) (length (now visited)) («visibility_offset» .0) (start .0) (delta .0) most ⌝ }
+    requires { ⌜ WalkReady (length (now voxels)) (length (now visited)) («visibility_offset» .0) (start .0) (delta .0) most ⌝ }
     ensures { λ r. ⌜ Idle (now (voxels .entry)) (now (visited .entry)) («visibility_offset» .0) (start .0) (delta .0) most r ⌝ }
 {
     let step = delta.0;
@@ -174,59 +154,43 @@ fn scan_row(
     voxels: &[u16],
     visited: &mut [u8],
     out: &mut [u32],
-    capacity: usize,
     before: Progress,
     scan: FaceScan,
     slice: u32,
     row: u32,
     start: VoxelIndex,
 ) -> Progress
-    requires { ⌜ (capacity ≡ listing.capacity quadNumbers (length (now out))) × (before .listed ≤ before .tests) × (before .tests + scan .row .count * voxelTests ≤ ampleTests) ⌝ }
+    requires { ⌜ RoomFor (rowTests scan) (progress (now visited) (now out) before) ⌝ }
     requires { ⌜ RowScan (length (now voxels)) (length (now visited)) scan slice row (start .0) ⌝ }
-    ensures { λ r. ⌜ Made (rowAlong (now (voxels .entry)) scan slice (progress (now (visited .entry)) (now (out .entry)) (before .listed) (before .tests)) row (start .0)) (before .tests + scan .row .count * voxelTests) (now (visited .exit)) (now (out .exit)) (r .listed) (r .tests) ⌝ }
+    ensures { λ r. ⌜ RowScanned (now (voxels .entry)) scan slice row (start .0) (progress (now (visited .entry)) (now (out .entry)) before) (progress (now (visited .exit)) (now (out .exit)) r) ⌝ }
 {
     let span = scan.row;
-    let step = span.stride.0;
-    let count = span.count;
-    let from = span.start;
-    let mut listed = before.listed;
-    let mut tests = before.tests;
+    let mut reached = before;
     let mut k: u32 = 0;
     let mut i = start.0;
-    while k < count {
+    while k < span.count {
         let passed = idle(
             voxels,
             visited,
             scan.visibility_offset,
             VoxelIndex(i),
             span.stride,
-            count - k,
+            span.count - k,
         );
-        tests += passed as u64;
+        reached.tests += passed as u64;
         k += passed;
-        i += passed * step;
-        if k == count {
-            return Progress { listed, tests };
+        i += passed * span.stride.0;
+        if k == span.count {
+            return reached;
         }
         let axes = scan.axes;
         let n = axes.n;
-        let minimum = face_scan::spot(n, slice, row, from + k);
-        let after = lay_quad(
-            voxels,
-            visited,
-            out,
-            capacity,
-            Progress { listed, tests },
-            scan,
-            minimum,
-            VoxelIndex(i),
-        );
-        listed = after.listed;
-        tests = after.tests;
+        let minimum = face_scan::spot(n, slice, row, span.start + k);
+        reached = lay_quad(voxels, visited, out, reached, scan, minimum, VoxelIndex(i));
         k += 1;
-        i += step;
+        i += span.stride.0;
     }
-    Progress { listed, tests }
+    reached
 }
 
 // Scans a slice, row by row.
@@ -234,42 +198,33 @@ fn scan_slice(
     voxels: &[u16],
     visited: &mut [u8],
     out: &mut [u32],
-    capacity: usize,
     before: Progress,
     scan: FaceScan,
     slice: u32,
     start: VoxelIndex,
 ) -> Progress
-    requires { ⌜ (capacity ≡ listing.capacity quadNumbers (length (now out))) × (before .listed ≤ before .tests) × (before .tests + scan .rows .count * (scan .row .count * voxelTests) ≤ ampleTests) ⌝ }
+    requires { ⌜ RoomFor (sliceTests scan) (progress (now visited) (now out) before) ⌝ }
     requires { ⌜ SliceScan (length (now voxels)) (length (now visited)) scan slice (start .0) ⌝ }
-    ensures { λ r. ⌜ Made (sliceAlong (now (voxels .entry)) scan (progress (now (visited .entry)) (now (out .entry)) (before .listed) (before .tests)) slice (start .0)) (before .tests + scan .rows .count * (scan .row .count * voxelTests)) (now (visited .exit)) (now (out .exit)) (r .listed) (r .tests) ⌝ }
+    ensures { λ r. ⌜ SliceScanned (now (voxels .entry)) scan slice (start .0) (progress (now (visited .entry)) (now (out .entry)) before) (progress (now (visited .exit)) (now (out .exit)) r) ⌝ }
 {
-    let span = scan.rows;
-    let step = span.stride.0;
-    let count = span.count;
-    let from = span.start;
-    let mut listed = before.listed;
-    let mut tests = before.tests;
+    let mut reached = before;
     let mut k: u32 = 0;
     let mut i = start.0;
-    while k < count {
-        let after = scan_row(
+    while k < scan.rows.count {
+        reached = scan_row(
             voxels,
             visited,
             out,
-            capacity,
-            Progress { listed, tests },
+            reached,
             scan,
             slice,
-            from + k,
+            scan.rows.start + k,
             VoxelIndex(i),
         );
-        listed = after.listed;
-        tests = after.tests;
         k += 1;
-        i += step;
+        i += scan.rows.stride.0;
     }
-    Progress { listed, tests }
+    reached
 }
 
 // Scans all slices, low to high.
@@ -277,63 +232,53 @@ fn scan_slices(
     voxels: &[u16],
     visited: &mut [u8],
     out: &mut [u32],
-    capacity: usize,
     before: Progress,
     scan: FaceScan,
     start: VoxelIndex,
 ) -> Progress
-    requires { ⌜ (capacity ≡ listing.capacity quadNumbers (length (now out))) × (before .listed ≤ before .tests) × (before .tests + scan .slices .count * (scan .rows .count * (scan .row .count * voxelTests)) ≤ ampleTests) ⌝ }
+    requires { ⌜ RoomFor (faceTests scan) (progress (now visited) (now out) before) ⌝ }
     requires { ⌜ SlicesScan (length (now voxels)) (length (now visited)) scan (start .0) ⌝ }
-    ensures { λ r. ⌜ Made (slicesAlong (now (voxels .entry)) scan (progress (now (visited .entry)) (now (out .entry)) (before .listed) (before .tests)) (start .0)) (before .tests + scan .slices .count * (scan .rows .count * (scan .row .count * voxelTests))) (now (visited .exit)) (now (out .exit)) (r .listed) (r .tests) ⌝ }
+    ensures { λ r. ⌜ SlicesScanned (now (voxels .entry)) scan (start .0) (progress (now (visited .entry)) (now (out .entry)) before) (progress (now (visited .exit)) (now (out .exit)) r) ⌝ }
 {
-    let span = scan.slices;
-    let step = span.stride.0;
-    let count = span.count;
-    let from = span.start;
-    let mut listed = before.listed;
-    let mut tests = before.tests;
+    let mut reached = before;
     let mut k: u32 = 0;
     let mut i = start.0;
-    while k < count {
-        let after = scan_slice(
+    while k < scan.slices.count {
+        reached = scan_slice(
             voxels,
             visited,
             out,
-            capacity,
-            Progress { listed, tests },
+            reached,
             scan,
-            from + k,
+            scan.slices.start + k,
             VoxelIndex(i),
         );
-        listed = after.listed;
-        tests = after.tests;
         k += 1;
-        i += step;
+        i += scan.slices.stride.0;
     }
-    Progress { listed, tests }
+    reached
 }
 
-// The group of a face: clears the marks, and scans the interior.
+// The group of a face: clears the marks, one a voxel of the shape, and scans the interior.
 fn greedy_quads_for_face(
     voxels: &[u16],
     visited: &mut [u8],
     out: &mut [u32],
-    capacity: usize,
     before: Progress,
     marks: usize,
     voxels_shape: UVec3,
     interior: Extent,
     face: OrientedBlockFace,
 ) -> Progress
-    requires { ⌜ (capacity ≡ listing.capacity quadNumbers (length (now out))) × (before .listed ≤ before .tests) × (before .tests ≤ 6 * mostVoxels * voxelTests) × (marks ≡ shape.size «voxels_shape») ⌝ }
+    requires { ⌜ (marks ≡ shape.size «voxels_shape») × RoomFor (mostVoxels * voxelTests) (progress (now visited) (now out) before) ⌝ }
     requires { ⌜ Accepted (length (now voxels)) (length (now visited)) «voxels_shape» interior ⌝ }
-    ensures { λ r. ⌜ MadeFace marks (listedGroup interior (shape.field «voxels_shape» (now (voxels .entry))) face) (greedyGroup interior (shape.field «voxels_shape» (now (voxels .entry))) face .tests) (now (visited .entry)) (now (out .entry)) (before .listed) (before .tests) (now (visited .exit)) (now (out .exit)) (r .listed) (r .tests) ⌝ }
+    ensures { λ r. ⌜ FaceMeshed (now (voxels .entry)) «voxels_shape» interior face (progress (now (visited .entry)) (now (out .entry)) before) (progress (now (visited .exit)) (now (out .exit)) r) ⌝ }
 {
     visited::clear(visited, marks);
     let scan = FaceScan::new(voxels_shape, interior, face);
     let minimum = interior.minimum;
     let start = VoxelIndex::linearize(voxels_shape, minimum);
-    scan_slices(voxels, visited, out, capacity, before, scan, start)
+    scan_slices(voxels, visited, out, before, scan, start)
 }
 
 // What all faces listed and tested, and how many quads each listed.
@@ -348,36 +293,32 @@ fn mesh_faces(
     voxels: &[u16],
     visited: &mut [u8],
     out: &mut [u32],
-    capacity: usize,
     size: usize,
     voxels_shape: UVec3,
     interior: Extent,
     faces: [OrientedBlockFace; 6],
 ) -> Meshed
-    requires { ⌜ (capacity ≡ listing.capacity quadNumbers (length (now out))) × (size ≡ shape.size «voxels_shape») ⌝ }
+    requires { ⌜ size ≡ shape.size «voxels_shape» ⌝ }
     requires { ⌜ Accepted (length (now voxels)) (length (now visited)) «voxels_shape» interior ⌝ }
-    ensures { λ r. ⌜ MadeFaces size (greedyGroups interior (shape.field «voxels_shape» (now (voxels .entry))) faces) (greedyTests interior (shape.field «voxels_shape» (now (voxels .entry))) faces) (now (visited .entry)) (now (out .entry)) (now (visited .exit)) (now (out .exit)) (r .listed) (r .tests) (r .counts) ⌝ }
+    ensures { λ r. ⌜ FacesMeshed (now (voxels .entry)) «voxels_shape» interior faces (now (visited .entry)) (now (out .entry)) (now (visited .exit)) (now (out .exit)) r ⌝ }
 {
     let mut counts = [0u64; 6];
     let mut listed: usize = 0;
     let mut tests: u64 = 0;
     let mut k: usize = 0;
     while k < 6 {
-        let face = faces[k];
         let after = greedy_quads_for_face(
             voxels,
             visited,
             out,
-            capacity,
             Progress { listed, tests },
             size,
             voxels_shape,
             interior,
-            face,
+            faces[k],
         );
-        let now = after.listed;
-        counts[k] = (now - listed) as u64;
-        listed = now;
+        counts[k] = (after.listed - listed) as u64;
+        listed = after.listed;
         tests = after.tests;
         k += 1;
     }
@@ -385,19 +326,6 @@ fn mesh_faces(
         listed,
         tests,
         counts,
-    }
-}
-
-// A refused call's answer.
-fn refused(number: u32, place: u64) -> GreedyAnswer
-    ensures { λ r. ⌜ r ≡ greedyAnswer 0 (refusal.refused number place) ⌝ }
-{
-    let counts = [0u64; 6];
-    GreedyAnswer {
-        refusal: number,
-        place,
-        counts,
-        tests: 0,
     }
 }
 
@@ -413,31 +341,19 @@ fn mesh(
 ) -> GreedyAnswer
     requires { ⌜ size ≡ shape.size «voxels_shape» ⌝ }
     requires { ⌜ Accepted (length (now voxels)) (length (now visited)) «voxels_shape» interior ⌝ }
-    ensures { λ r. ⌜ outcome r (now (visited .exit)) (now (out .exit)) ≡ laidOutcome (greedyTests interior (shape.field «voxels_shape» (now (voxels .entry))) faces) (listing.overwritten (replicate size 0) (now (visited .entry))) (listing.lay quadNumbers numbersOf (greedyGroups interior (shape.field «voxels_shape» (now (voxels .entry))) faces) (now (out .entry))) ⌝ }
+    ensures { λ r. ⌜ outcome r (now (visited .exit)) (now (out .exit)) ≡ greedyFrom (accepted tt) size interior (shape.field «voxels_shape» (now (voxels .entry))) faces (now (visited .entry)) (now (out .entry)) ⌝ }
 {
     let capacity = out.len() / QUAD_NUMBERS;
-    let meshed = mesh_faces(
-        voxels,
-        visited,
-        out,
-        capacity,
-        size,
-        voxels_shape,
-        interior,
-        faces,
-    );
+    let meshed = mesh_faces(voxels, visited, out, size, voxels_shape, interior, faces);
     visited::clear(visited, size);
-    let listed = meshed.listed;
-    if capacity < listed {
-        return refused(refusal::MANY_QUADS, capacity as u64);
-    }
     let counts = meshed.counts;
-    let tests = meshed.tests;
+    let mesh = listing::answered(meshed.listed, capacity, counts);
+    if capacity < meshed.listed {
+        return GreedyAnswer { mesh, tests: 0 };
+    }
     GreedyAnswer {
-        refusal: 0,
-        place: 0,
-        counts,
-        tests,
+        mesh,
+        tests: meshed.tests,
     }
 }
 
@@ -462,11 +378,21 @@ pub fn greedy_quads(
     ensures { λ r. ⌜ outcome r (now (visited .exit)) (now (out .exit)) ≡ greedyQuads (now (voxels .entry)) «voxels_shape» min max faces (now (visited .entry)) (now (out .entry)) ⌝ }
 {
     match bounds::enter_greedy(voxels, voxels_shape, min, max, faces, visited.len()) {
-        EntryAnswer::Refused(number, place) => refused(number, place),
+        EntryAnswer::Refused(number, place) => {
+            let mesh = listing::refused(number, place);
+            GreedyAnswer { mesh, tests: 0 }
+        }
         EntryAnswer::Entered(entry) => {
-            let interior = entry.interior;
             let size = entry.size as usize;
-            mesh(voxels, voxels_shape, size, interior, faces, visited, out)
+            mesh(
+                voxels,
+                voxels_shape,
+                size,
+                entry.interior,
+                faces,
+                visited,
+                out,
+            )
         }
     }
 }

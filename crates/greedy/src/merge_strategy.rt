@@ -1,8 +1,8 @@
 // How a rectangle is picked, after greedy/merge_strategy.rs: `VoxelMerger`'s walk.
 ghost use mathlib.Core.Path.{_≡_};
 ghost use lib.ListN.{length};
-ghost use Rattle.greedy.specs.Inner.{RowReady, QuadReady, rowAt, quadAt};
-ghost use Rattle.greedy.specs.Merger as rule;
+ghost use Rattle.greedy.specs.Walks.{WalkReady, QuadReady, rowAt, quadAt};
+ghost use Rattle.rules.specs.Merger as rule;
 use crate::face_needs_mesh;
 use voxels::index::Stride;
 use voxels::index::VoxelIndex;
@@ -32,7 +32,7 @@ fn get_row_width(
     delta: Stride,
     max_width: u32,
 ) -> RowWalk
-    requires { ⌜ RowReady (length (now voxels)) (length (now visited)) («visibility_offset» .0) (start .0) (delta .0) «max_width» ⌝ }
+    requires { ⌜ WalkReady (length (now voxels)) (length (now visited)) («visibility_offset» .0) (start .0) (delta .0) «max_width» ⌝ }
     ensures { λ r. ⌜ rule.walk (r .width) (r .tests) ≡ rowAt (now (voxels .entry)) (now (visited .entry)) («visibility_offset» .0) «quad_voxel» (delta .0) «max_width» (start .0) ⌝ }
 {
     let step = delta.0;

@@ -2,8 +2,8 @@
 ghost use mathlib.Core.Path.{_≡_};
 ghost use Prim.Native.Nat.{_≤_};
 ghost use lib.ListN.{length, replicate};
-ghost use Rattle.voxels.specs.Listing.{overwritten};
-ghost use Rattle.greedy.specs.Inner.{RowMarked, QuadMarked, markRowAt, markQuadAt};
+ghost use Rattle.listing.specs.Listing.{overwritten};
+ghost use Rattle.greedy.specs.Marks.{RowMarked, QuadMarked, markRowAt, markQuadAt};
 use voxels::index::Stride;
 use voxels::index::VoxelIndex;
 

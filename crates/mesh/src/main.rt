@@ -16,9 +16,10 @@ mod words;
 
 use geometry::axis::SignedAxis;
 use geometry::face::OrientedBlockFace;
+use geometry::refusal::CheckAnswer;
 use greedy::QUAD_NUMBERS;
+use listing::MeshAnswer;
 use voxels::bounds;
-use voxels::bounds::EntryCheck;
 use words::Job;
 
 // The six faces of a cube, in the order of `show::face`.
@@ -33,6 +34,19 @@ fn cube() -> [OrientedBlockFace; 6] {
     ]
 }
 
+// Prints the quads that were meshed, so many numbers each, and how many each face has. Where the block
+// was refused it says so instead, and answers false.
+fn listed(mesh: MeshAnswer, out: &[u32], numbers: usize) -> bool {
+    if mesh.refusal != 0 {
+        say::refused(mesh.refusal, mesh.place);
+        return false;
+    }
+    let counts = mesh.counts;
+    show::groups(out, numbers, counts);
+    show::counts(counts);
+    true
+}
+
 // Meshes unit quads: at most 131,072 of them, three numbers each.
 fn mesh_unit(job: Job, voxels: &[u16]) {
     let mut room = space::unit_quads();
@@ -41,14 +55,9 @@ fn mesh_unit(job: Job, voxels: &[u16]) {
     let min = job.min;
     let max = job.max;
     let answer = simple::visible_block_faces(voxels, shape, min, max, cube(), out);
-    if answer.refusal != 0 {
-        say::refused(answer.refusal, answer.place);
-        return;
+    if listed(answer, out, 3) {
+        show::end();
     }
-    let counts = answer.counts;
-    show::groups(out, 3, counts);
-    show::counts(counts);
-    show::end();
 }
 
 // Meshes greedy quads: at most 131,072 of them, five numbers each.
@@ -61,14 +70,10 @@ fn mesh_greedy(job: Job, voxels: &[u16]) {
     let min = job.min;
     let max = job.max;
     let answer = greedy::greedy_quads(voxels, shape, min, max, cube(), visited, out);
-    if answer.refusal != 0 {
-        say::refused(answer.refusal, answer.place);
-        return;
+    let mesh = answer.mesh;
+    if listed(mesh, out, QUAD_NUMBERS) {
+        show::tests(answer.tests);
     }
-    let counts = answer.counts;
-    show::groups(out, QUAD_NUMBERS, counts);
-    show::counts(counts);
-    show::tests(answer.tests);
 }
 
 // Reads a block of so many voxels and meshes it.
@@ -92,11 +97,11 @@ fn main() {
     }
     let shape = job.shape;
     match bounds::check_shape(shape) {
-        EntryCheck::Refused(number, place) => {
+        CheckAnswer::Refused(number, place) => {
             say::refused(number, place);
             return;
         }
-        EntryCheck::Passed => {}
+        CheckAnswer::Passed => {}
     }
     let size = block::size(shape.x, shape.y, shape.z);
     if size > block::MOST_VOXELS {

@@ -30,7 +30,7 @@ pub fn many_voxels(size: u64) {
 // A refused block, in words. The numbers are document 01's; those that this command cannot get are
 // left out.
 pub fn refused(number: u32, place: u64) {
-    if number == 9 {
+    if number == listing::MANY_QUADS {
         sentence(
             b"mesh: refused by 9 at ",
             place,

@@ -2,18 +2,18 @@
 use mathlib.Core.List.{List, [], _∷_, _++_}
 use mathlib.Core.Path.{_≡_, refl, sym, _∙_, ap}
 use Prim.Native.Nat.{ℕ, suc, _+_, _-_, _≤_, _<_}
-use native.Mathlib.Nat.{add-zero, add-assoc, sub-zero}
 use native.Mathlib.Omega.{arith}
 use lib.ListN.{length, getD, set, length-append}
 use Rattle.geometry.specs.Point.{Point}
-use Rattle.voxels.specs.Inner.{inStep, Output, output, pushed, pushedAll}
-use Rattle.voxels.proofs.Asked.{more, done}
-use Rattle.voxels.proofs.Pushed.{pushed-counts}
+use Rattle.voxels.specs.Loop.{inStep, Stand, stand, onBy}
+use Rattle.voxels.proofs.Loops.{both-start, both-next, loop-none, sums-join, underway-whole}
+use Rattle.listing.specs.Pushed.{Output, output, pushed, pushedAll}
+use Rattle.listing.proofs.Pushed.{pushed-counts}
 use Rattle.simple.specs.Unit.{unitNumbers, numbersOf}
-use Rattle.simple.specs.Inner.{laidRun, laidRuns, Apart, Listed}
+use Rattle.simple.specs.List.{laidRun, laidRuns, Apart, RunsListed}
 use Rattle.simple.proofs.Totals.{in-step-length}
 use Rattle.simple.proofs.Sixes.{counted-none, counted-same, Growing, growing-start, growing-on, growing-still, growing-done}
-use Rattle.simple.proofs.Counting.{Counting, counting-start, counting-left, counting-on, counting-done}
+use Rattle.simple.proofs.Counting.{Counting, counting-start, counting-on, counting-done}
 use Rattle.simple.proofs.Runs.{run-none, runs-same, runs-none, runs-append}
 
 -- ---- a voxel's faces
@@ -57,43 +57,37 @@ module _ {was cursors : List ℕ} {quads : ℕ → List Point} where
           is = runs-more out′ (rw one (ap (λ (s : Output). s .out) push));
         }
 
-    pub faces-done : 6 ≤ f → Listed was cursors quads out now
+    pub faces-done : 6 ≤ f → RunsListed was cursors quads out now
     faces-done h =
         let six : f ≡ 6 = omega (arith, l .moved .within) in
         record { is = rw six at (l .is); moved = growing-done (l .moved) h }
 
   -- Where no face has a quad all is as it was.
-  pub faces-none : length cursors ≡ 6 → ((f : ℕ) → quads f ≡ []) → Listed was cursors quads was cursors
+  pub faces-none : length cursors ≡ 6 → ((f : ℕ) → quads f ≡ []) → RunsListed was cursors quads was cursors
   faces-none six none = record { is = sym (runs-none 6 was _ _ (λ f b. none f)); moved = counted-none _ six (λ f. ap length (none f)) }
 
 -- ---- a loop that lists
 
 -- A loop, k of n done: it stands at the index j, the cursors moved by what is listed, and what is listed and what is left make the whole.
-pub record Underway (d : ℕ) (g : ℕ → ℕ → ℕ → List Point) (size : ℕ → ℕ → ℕ) (a i n : ℕ) (out₀ cursors₀ out cursors : List ℕ) (k j : ℕ) : Type 0 where
+pub record Listing (d : ℕ) (g : ℕ → ℕ → ℕ → List Point) (size : ℕ → ℕ → ℕ) (a i n : ℕ) (out₀ cursors₀ out cursors : List ℕ) (k j : ℕ) : Type 0 where
   pub moved : Counting cursors₀ cursors size d i n k j
   pub long : length out ≡ length out₀
   pub whole : laidRuns out (λ (f : ℕ). getD cursors f 0) (λ (f : ℕ). inStep d (g f) (a + k) j (n - k)) 6
       ≡ laidRuns out₀ (λ (f : ℕ). getD cursors₀ f 0) (λ (f : ℕ). inStep d (g f) a i n) 6
 
 module _ {d : ℕ} {g : ℕ → ℕ → ℕ → List Point} {size : ℕ → ℕ → ℕ} {a i n : ℕ} {out₀ cursors₀ : List ℕ} where
-  pub runs-start : length cursors₀ ≡ 6 → Underway d g size a i n out₀ cursors₀ out₀ cursors₀ 0 i
+  pub runs-start : length cursors₀ ≡ 6 → Listing d g size a i n out₀ cursors₀ out₀ cursors₀ 0 i
   runs-start six =
       record {
         moved = counting-start six;
         long = refl;
-        whole = runs-same 6 out₀ _ _ _ _ (λ f h. refl) (λ f h. rw (sub-zero, add-zero));
+        whole = runs-same 6 out₀ _ _ _ _ (λ f h. refl) (λ f h. both-start [] _++_ d (λ (p : Stand). g f (p .coordinate) (p .index)) a i n);
       }
 
-  module _ {out cursors : List ℕ} {k j : ℕ} (l : Underway d g size a i n out₀ cursors₀ out cursors k j) (sized : (f a i : ℕ) → length (g f a i) ≡ size f i) where
+  module _ {out cursors : List ℕ} {k j : ℕ} (l : Listing d g size a i n out₀ cursors₀ out cursors k j) (sized : (f a i : ℕ) → length (g f a i) ≡ size f i) where
     -- What is left is the next turn's, and then the rest's.
     left-next : k < n → (f : ℕ) → inStep d (g f) (a + k) j (n - k) ≡ g f (a + k) j ++ inStep d (g f) (a + (k + 1)) (j + d) (n - (k + 1))
-    unfolding inStep
-    left-next h f = rw (more k n h, ← add-assoc a k 1)
-
-    -- At the end nothing is left.
-    left-none : n ≤ k → (f : ℕ) → inStep d (g f) (a + k) j (n - k) ≡ []
-    unfolding inStep
-    left-none h f = rw (done k n h)
+    left-next h f = both-next [] _++_ d (λ (p : Stand). g f (p .coordinate) (p .index)) a j k n h
 
     module _ (h : k < n) (apart : Apart cursors₀ (λ (f : ℕ). inStep d (g f) a i n)) where
       -- What is left of each run ends before the next run's rest begins,
@@ -104,7 +98,7 @@ module _ {d : ℕ} {g : ℕ → ℕ → ℕ → List Point} {size : ℕ → ℕ 
             apart f b,
             l .moved .so-far .each f (omega arith),
             l .moved .so-far .each (suc f) b,
-            counting-left (l .moved) f,
+            underway-whole sums-join (size f) (l .moved .at),
             in-step-length d (g f) (size f) (sized f) n a i,
             in-step-length d (g f) (size f) (sized f) (n - k) (a + k) j,
             ap length (left-next h f),
@@ -115,7 +109,7 @@ module _ {d : ℕ} {g : ℕ → ℕ → ℕ → List Point} {size : ℕ → ℕ 
       pub runs-apart : Apart cursors (λ (f : ℕ). g f (a + k) j)
       runs-apart f b = omega (arith, left-apart f b)
 
-      pub runs-on : {out′ cursors′ : List ℕ} → Listed out cursors (λ (f : ℕ). g f (a + k) j) out′ cursors′ → length out′ ≡ length out → Underway d g size a i n out₀ cursors₀ out′ cursors′ (k + 1) (j + d)
+      pub runs-on : {out′ cursors′ : List ℕ} → RunsListed out cursors (λ (f : ℕ). g f (a + k) j) out′ cursors′ → length out′ ≡ length out → Listing d g size a i n out₀ cursors₀ out′ cursors′ (k + 1) (j + d)
       runs-on {out′} {cursors′} made long =
           let first : ℕ → List Point = λ f. g f (a + k) j in
           let rest : ℕ → List Point = λ f. inStep d (g f) (a + (k + 1)) (j + d) (n - (k + 1)) in
@@ -130,9 +124,10 @@ module _ {d : ℕ} {g : ℕ → ℕ → ℕ → List Point} {size : ℕ → ℕ 
                 ∙ l .whole;
           }
 
-    pub runs-done : n ≤ k → Listed out₀ cursors₀ (λ (f : ℕ). inStep d (g f) a i n) out cursors
+    -- At the end nothing is left.
+    pub runs-done : n ≤ k → RunsListed out₀ cursors₀ (λ (f : ℕ). inStep d (g f) a i n) out cursors
     runs-done h =
         record {
-          is = sym (runs-none 6 out _ _ (λ f b. left-none h f)) ∙ l .whole;
+          is = sym (runs-none 6 out _ _ (λ f b. loop-none [] _++_ (onBy d) (λ (p : Stand). g f (p .coordinate) (p .index)) (stand (a + k) j) k n h)) ∙ l .whole;
           moved = counted-same (counting-done (l .moved) h) (λ f. sym (in-step-length d (g f) (size f) (sized f) n a i));
         }

@@ -7,25 +7,21 @@ pub mod Totals
 pub mod Sixes
 -- Of loops that count.
 pub mod Counting
--- Of a slice as one run.
+-- Of rows as one run.
 pub mod Flat
 -- Of runs of quads, one for each face.
 pub mod Runs
 -- Of listing from six cursors.
 pub mod Cursors
+-- That no voxel of an accepted box is bad.
+pub mod Soundness
 -- Of a face's group, by indices.
 pub mod Faces
--- That no voxel that is read is bad.
-pub mod Soundness
 -- From the loops to the groups.
 pub mod Whole
--- From the groups to the answer.
-pub mod Laid
 -- From the entry to the whole outcome.
 pub mod Outcome
--- What its reader is told.
-pub mod Reader
--- That its quads can be drawn.
-pub mod Drawn
 -- That the public contract leaves one outcome.
 pub mod Unique
+-- What a call leaves.
+pub mod Call

@@ -3,15 +3,16 @@ use mathlib.Core.Bool.{true, false}
 use mathlib.Core.List.{List}
 use mathlib.Core.Path.{_≡_, sym}
 use Prim.Native.Nat.{ℕ, _+_, _*_, _≤_, _<_}
+use native.Mathlib.Nat.{mul-one}
 use native.Mathlib.Omega.{arith}
 use lib.ListN.{getD}
 use borrow.Author.Tests.{lt-ltb, le-ltb}
 use Rattle.geometry.specs.Axes.{bit}
 use Rattle.voxels.specs.Voxel.{mergeValues, class, shows}
 use Rattle.voxels.specs.Visible.{offsetIndex}
-use Rattle.voxels.specs.Inner.{mostVoxels, longest}
+use Rattle.voxels.specs.Entered.{mostVoxels, longest}
 use Rattle.voxels.proofs.Voxels.{shows-below}
-use Rattle.simple.specs.Inner.{showsAt, RowReady}
+use Rattle.simple.specs.Ready.{showsAt, VoxelReady, RowReady}
 
 -- ---- a voxel that is not bad
 
@@ -39,10 +40,22 @@ module _ (vs : List ℕ) (offset i : ℕ) (sound : class (getD vs i 0) ≤ 2) {s
 
 -- ---- a row
 
+-- A row is ready where each of its voxels is.
+pub row-of-voxels : {voxels : List ℕ} {offset i wide : ℕ} → ((k : ℕ) → k < wide → VoxelReady voxels offset (i + k)) → i + wide ≤ 2 * mostVoxels → (0 < wide → offsetIndex i offset + wide ≤ 2 * mostVoxels) → wide ≤ longest
+    → RowReady voxels offset i wide
+row-of-voxels each last near short = record { steps = record { each = λ k h. rw mul-one (each k h); last = omega arith; apart = omega arith }; near = near; short = short }
+
+module _ {voxels : List ℕ} {offset i wide : ℕ} (ready : RowReady voxels offset i wide) where
+  pub voxel-ready : (k : ℕ) → k < wide → VoxelReady voxels offset (i + k)
+  voxel-ready k h = rw mul-one at (ready .steps .each k h)
+
+  pub row-last : i + wide ≤ 2 * mostVoxels
+  row-last = omega (arith, ready .steps .last)
+
 -- The neighbours' indices do not wrap on the way,
 pub on-way : (o i k : ℕ) → offsetIndex i o ≤ 2 * mostVoxels → k ≤ longest → offsetIndex (i + k) o ≡ offsetIndex i o + k
 on-way o i k h l = omega arith
 
 -- so that the neighbour of a row's k-th voxel is the k-th after the first's.
-pub beyond-at : (lent offset i wide : ℕ) → RowReady lent offset i wide → (k : ℕ) → k < wide → offsetIndex i offset + k ≡ offsetIndex (i + k) offset
-beyond-at lent offset i wide ready k h = sym (on-way offset i k (omega (arith, ready .near (omega arith))) (omega (arith, ready .short)))
+pub beyond-at : (voxels : List ℕ) (offset i wide : ℕ) → RowReady voxels offset i wide → (k : ℕ) → k < wide → offsetIndex i offset + k ≡ offsetIndex (i + k) offset
+beyond-at voxels offset i wide ready k h = sym (on-way offset i k (omega (arith, ready .near (omega arith))) (omega (arith, ready .short)))

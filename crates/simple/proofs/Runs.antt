@@ -5,23 +5,24 @@ use Prim.Native.Nat.{ℕ, zero, suc, _+_, _*_, _≤_, _<_}
 use native.Mathlib.Nat.{suc-mul, mul-le-mul-right, not-suc-le-zero}
 use native.Mathlib.Omega.{arith}
 use lib.Dec.{ltb, eqb}
-use lib.ListN.{length, getD, set, take, length-set}
+use lib.ListN.{length, getD, set, take}
 use lib.Seq.{set-comm}
 use borrow.Author.Tests.{ltb-true, ltb-false, eqb-true, eqb-false}
 use Rattle.geometry.specs.Point.{Point}
 use Rattle.geometry.proofs.Refusals.{split}
-use Rattle.voxels.specs.Listing.{joined, capacity}
-use Rattle.voxels.specs.Inner.{setAll, Output, output, pushed, pushedAll}
-use Rattle.voxels.proofs.Pushed.{pushed-append, pushed-counts, pushed-room, pushed-full}
-use Rattle.voxels.proofs.Groups.{all-counted, groups-next, groups-done}
+use Rattle.listing.specs.Listing.{joined, capacity}
+use Rattle.listing.specs.Pushed.{setAll, put, Output, output, pushedAll}
+use Rattle.listing.proofs.Pushed.{set-all-length, put-room, put-full, put-pushed, pushed-append}
+use Rattle.listing.proofs.Groups.{all-counted, groups-next, groups-done}
 use Rattle.simple.specs.Unit.{unitNumbers, numbersOf}
-use Rattle.simple.specs.Inner.{laidRun, laidRuns, Apart, Listed}
-use Rattle.simple.proofs.Laid.{three}
+use Rattle.simple.specs.List.{laidRun, laidRuns, Apart, RunsListed}
+use Rattle.simple.proofs.Outcome.{three}
 
 -- ---- writing at two places
 
 -- A number set past a list's numbers may be set before them.
 set-past : (xs out : List ℕ) (k j b : ℕ) → k + length xs ≤ j → setAll (set out j b) k xs ≡ set (setAll out k xs) j b
+unfolding setAll
 set-past [] out k j b h = refl
 set-past (x ∷ xs) out k j b h =
     rw (set-comm out j k b x (λ e. omega (arith, e)))
@@ -29,65 +30,44 @@ set-past (x ∷ xs) out k j b h =
 
 -- So may a list's.
 set-all-past : (ys xs out : List ℕ) (k j : ℕ) → k + length xs ≤ j → setAll (setAll out j ys) k xs ≡ setAll (setAll out k xs) j ys
+unfolding setAll
 set-all-past [] xs out k j h = refl
 set-all-past (y ∷ ys) xs out k j h =
     rw (← set-past xs out k j y h) (set-all-past ys xs (set out j y) k (j + 1) (omega arith))
 
--- Setting keeps the length.
-set-all-length : (xs out : List ℕ) (k : ℕ) → length (setAll out k xs) ≡ length out
-set-all-length [] out k = refl
-set-all-length (x ∷ xs) out k = set-all-length xs (set out k x) (k + 1) ∙ length-set out k x
+-- An item that is written leaves the buffer as long as it was.
+put-length : (out item : List ℕ) (p : ℕ) → length (put out p item) ≡ length out
+put-length out item p =
+    split (ltb p (capacity (length item) (length out)))
+    (λ t. ap length (put-room out item p (ltb-true _ _ t)) ∙ set-all-length item out (p * length item))
+    (λ f. ap length (put-full out item p (ltb-false _ _ f)))
 
-module _ {A : Type 0} (numbers : ℕ) (numbersOf : A → List ℕ) (sized : (a : A) → length (numbersOf a) ≡ numbers) where
-  -- The buffer after an item was listed at a place: it is written where there is room, and else nothing is.
-  unfoldable written : List ℕ → ℕ → A → List ℕ
-  written out p a = pushed numbers numbersOf (output out p) a .out
-
-  written-room : (out : List ℕ) (p : ℕ) (a : A) → p < capacity numbers (length out) → written out p a ≡ setAll out (p * numbers) (numbersOf a)
-  unfolding written
-  written-room out p a h = ap (λ (s : Output). s .out) (pushed-room numbers numbersOf (output out p) a h)
-
-  written-full : (out : List ℕ) (p : ℕ) (a : A) → capacity numbers (length out) ≤ p → written out p a ≡ out
-  unfolding written
-  written-full out p a h = ap (λ (s : Output). s .out) (pushed-full numbers numbersOf (output out p) a h)
-
-  written-length : (out : List ℕ) (p : ℕ) (a : A) → length (written out p a) ≡ length out
-  written-length out p a =
-      split (ltb p (capacity numbers (length out)))
-      (λ t. ap length (written-room out p a (ltb-true _ _ t)) ∙ set-all-length (numbersOf a) out (p * numbers))
-      (λ f. ap length (written-full out p a (ltb-false _ _ f)))
-
-  -- Two items at two places may be listed in either order.
-  written-past : (out : List ℕ) (p q : ℕ) (a b : A) → p < q → written (written out q b) p a ≡ written (written out p a) q b
-  written-past out p q a b h =
-      let room : ℕ = capacity numbers (length out) in
-      let after-a : capacity numbers (length (written out p a)) ≡ room = ap (capacity numbers) (written-length out p a) in
-      split (ltb q room)
-      (λ t.
-      let fits = ltb-true q room t in
-      let after-b : capacity numbers (length (written out q b)) ≡ room = ap (capacity numbers) (written-length out q b) in
-      let apart : p * numbers + length (numbersOf a) ≤ q * numbers = omega (arith, sized a, suc-mul p numbers, mul-le-mul-right {m = suc p} {n = q} numbers (omega arith)) in
-      written-room (written out q b) p a (omega arith)
-      ∙ ap (λ (o : List ℕ). setAll o (p * numbers) (numbersOf a)) (written-room out q b fits)
-      ∙ set-all-past (numbersOf b) (numbersOf a) out (p * numbers) (q * numbers) apart
-      ∙ ap (λ (o : List ℕ). setAll o (q * numbers) (numbersOf b)) (sym (written-room out p a (omega arith)))
-      ∙ sym (written-room (written out p a) q b (omega arith)))
-      (λ f.
-      let full = ltb-false q room f in
-      ap (λ (o : List ℕ). written o p a) (written-full out q b full) ∙ sym (written-full (written out p a) q b (omega arith)))
+-- Two items of as many numbers may be written at two places in either order.
+put-past : (out item next : List ℕ) (p q : ℕ) → length item ≡ length next → p < q → put (put out q next) p item ≡ put (put out p item) q next
+put-past out item next p q same h =
+    let room : ℕ = capacity (length next) (length out) in
+    let after-item : capacity (length next) (length (put out p item)) ≡ room = ap (capacity (length next)) (put-length out item p) in
+    split (ltb q room)
+    (λ t.
+    let fits = ltb-true q room t in
+    let before-item : capacity (length item) (length out) ≡ room = ap (λ (n : ℕ). capacity n (length out)) same in
+    let after-next : capacity (length item) (length (put out q next)) ≡ capacity (length item) (length out) = ap (capacity (length item)) (put-length out next q) in
+    let apart : p * length item + length item ≤ q * length next = omega (arith, suc-mul p (length item), mul-le-mul-right {m = suc p} {n = q} (length item) (omega arith), ap (λ (n : ℕ). q * n) same) in
+    put-room (put out q next) item p (omega arith)
+    ∙ ap (λ (o : List ℕ). setAll o (p * length item) item) (put-room out next q fits)
+    ∙ set-all-past next item out (p * length item) (q * length next) apart
+    ∙ ap (λ (o : List ℕ). setAll o (q * length next) next) (sym (put-room out item p (omega arith)))
+    ∙ sym (put-room (put out p item) next q (omega arith)))
+    (λ f.
+    let full = ltb-false q room f in
+    ap (λ (o : List ℕ). put o p item) (put-full out next q full) ∙ sym (put-full (put out p item) next q (omega arith)))
 
 -- ---- a run
 
--- A unit quad, listed at a place.
-abbrev put : List ℕ → ℕ → Point → List ℕ
-put = written unitNumbers numbersOf three
-
 -- A run is its first quad's, and then the others'.
-run-next : (out : List ℕ) (p : ℕ) (a : Point) (l : List Point) → laidRun out p (a ∷ l) ≡ laidRun (put out p a) (p + 1) l
-unfolding laidRun pushedAll written
-run-next out p a l =
-    let same : pushed unitNumbers numbersOf (output out p) a ≡ output (put out p a) (p + 1) = ap (output (put out p a)) (pushed-counts unitNumbers numbersOf (output out p) a) in
-    ap (λ (s : Output). pushedAll unitNumbers numbersOf s l .out) same
+run-next : (out : List ℕ) (p : ℕ) (a : Point) (l : List Point) → laidRun out p (a ∷ l) ≡ laidRun (put out p (numbersOf a)) (p + 1) l
+unfolding laidRun pushedAll
+run-next out p a l = ap (λ (s : Output). pushedAll unitNumbers numbersOf s l .out) (sym (put-pushed unitNumbers numbersOf (omega arith) three out p a refl))
 
 -- No quads change nothing.
 pub run-none : (out : List ℕ) (p : ℕ) → laidRun out p [] ≡ out
@@ -107,18 +87,18 @@ run-append out p l m =
     ∙ ap (λ (s : Output). s .out) (sym (pushed-append unitNumbers numbersOf (output out p) l m))
 
 -- A quad past a run may be listed before it,
-run-past-one : (l : List Point) (out : List ℕ) (p q : ℕ) (b : Point) → p + length l ≤ q → laidRun (put out q b) p l ≡ put (laidRun out p l) q b
+run-past-one : (l : List Point) (out : List ℕ) (p q : ℕ) (b : Point) → p + length l ≤ q → laidRun (put out q (numbersOf b)) p l ≡ put (laidRun out p l) q (numbersOf b)
 run-past-one [] out p q b h = rw (run-none, run-none)
 run-past-one (a ∷ l) out p q b h =
-    rw (run-next, run-next, written-past unitNumbers numbersOf three out p q a b (omega arith))
-    (run-past-one l (put out p a) (p + 1) q b (omega arith))
+    rw (run-next, run-next, put-past out (numbersOf a) (numbersOf b) p q refl (omega arith))
+    (run-past-one l (put out p (numbersOf a)) (p + 1) q b (omega arith))
 
 -- and so may a run past it.
 pub run-past : (m l : List Point) (out : List ℕ) (p q : ℕ) → p + length l ≤ q → laidRun (laidRun out q m) p l ≡ laidRun (laidRun out p l) q m
 run-past [] l out p q h = rw (run-none, run-none)
 run-past (b ∷ m) l out p q h =
     rw (run-next, run-next, ← run-past-one l out p q b h)
-    (run-past m l (put out q b) p (q + 1) (omega arith))
+    (run-past m l (put out q (numbersOf b)) p (q + 1) (omega arith))
 
 -- ---- runs
 
@@ -188,7 +168,7 @@ module _ {F : Type 0} (group : F → List Point) (fs : List F) (d : F) (at : ℕ
     joined-apart f h = omega (arith, places f (omega arith), places (suc f) h, next f (omega arith), ap length (groups f (omega arith)))
 
     -- and what was listed from them is the groups, one after another.
-    pub listed-joined : {was out now : List ℕ} → Listed was cursors quads out now → output out (at 6) ≡ pushedAll unitNumbers numbersOf (output was 0) (joined (map group fs))
+    pub listed-joined : {was out now : List ℕ} → RunsListed was cursors quads out now → output out (at 6) ≡ pushedAll unitNumbers numbersOf (output was 0) (joined (map group fs))
     listed-joined {was} made =
         ap (λ (o : List ℕ). output o (at 6)) (made .is ∙ runs-same 6 was _ at _ _ places (λ f h. sym (groups f h)))
         ∙ runs-joined was 6 (omega arith)

@@ -8,7 +8,9 @@ use lib.ListN.{length, getD, set, length-set, replicate, getD-replicate}
 use lib.Seq.{getD-set-same, getD-set-other, set-getD}
 use borrow.Author.Tests.{eqb-true, eqb-false}
 use Rattle.geometry.proofs.Refusals.{split}
-use Rattle.simple.specs.Inner.{mostListed, startOf, Room, Counted}
+use Rattle.simple.specs.Ready.{mostListed, Room}
+use Rattle.simple.specs.Count.{Counted}
+use Rattle.simple.specs.Kernel.{startOf}
 
 -- Six numbers that can grow by so many can by fewer.
 pub room-less : {numbers : List ℕ} {m n : ℕ} → Room numbers n → m ≤ n → Room numbers m

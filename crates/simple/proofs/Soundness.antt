@@ -1,7 +1,7 @@
 -- After an accepted entry no voxel that the loops read is bad: neither those of the interior's rows, nor, where the box spans its block along x, the two between a row and the next.
 use mathlib.Core.List.{List}
 use mathlib.Core.Path.{_≡_}
-use Prim.Native.Nat.{ℕ, zero, suc, _+_, _-_, _*_, _≤_, _<_}
+use Prim.Native.Nat.{ℕ, zero, suc, _+_, _*_, _≤_, _<_}
 use native.Mathlib.Nat.{add-zero, add-mul, one-mul, zero-mul}
 use native.Mathlib.Omega.{arith}
 use lib.ListN.{getD}
@@ -11,9 +11,9 @@ use Rattle.voxels.specs.declared.extent.Extent.{Extent}
 use Rattle.voxels.specs.Voxel.{class}
 use Rattle.voxels.specs.Shape.{index, stride}
 use Rattle.voxels.specs.Extent.{interior}
-use Rattle.voxels.specs.Inner.{Held, SoundAround}
+use Rattle.voxels.specs.Entered.{Held, SoundAround, wideOf, highOf, deepOf}
 use Rattle.voxels.proofs.Places.{index-at}
-use Rattle.simple.specs.Inner.{SlicesSound}
+use Rattle.simple.specs.Ready.{NoneBad}
 
 -- What holds of 0 and of 1 holds of each of two.
 each-of-two : (P : ℕ → Type 0) → P 0 → P 1 → (m : ℕ) → m < 2 → P m
@@ -25,20 +25,11 @@ module _ (shape : Point) (lent : ℕ) (min max : Point) (h : Held shape lent min
   abbrev inner : Extent
   inner = interior min max
 
-  abbrev wide : ℕ
-  wide = inner .bound .x - inner .minimum .x
-
-  abbrev high : ℕ
-  high = inner .bound .y - inner .minimum .y
-
-  abbrev deep : ℕ
-  deep = inner .bound .z - inner .minimum .z
-
   abbrev start : ℕ
   start = index shape (inner .minimum)
 
   -- A voxel so many steps up from the interior's minimum, not past the box.
-  sound-at : (i j k : ℕ) → i ≤ wide → j ≤ high → k ≤ deep → class (getD vs (start + k * stride shape Z + j * stride shape Y + i) 0) ≤ 2
+  pub sound-at : (i j k : ℕ) → i ≤ wideOf inner → j ≤ highOf inner → k ≤ deepOf inner → class (getD vs (start + k * stride shape Z + j * stride shape Y + i) 0) ≤ 2
   unfolding along
   sound-at i j k hi hj hk =
       rw (← index-at shape (inner .minimum) i j k)
@@ -49,7 +40,7 @@ module _ (shape : Point) (lent : ℕ) (min max : Point) (h : Held shape lent min
       ]))
 
   -- The first voxel of a row of the box, a step below the interior.
-  sound-before : (j k : ℕ) → j ≤ high → k ≤ deep → (m : ℕ) → m + 1 ≡ start + k * stride shape Z + j * stride shape Y → class (getD vs m 0) ≤ 2
+  sound-before : (j k : ℕ) → j ≤ highOf inner → k ≤ deepOf inner → (m : ℕ) → m + 1 ≡ start + k * stride shape Z + j * stride shape Y → class (getD vs m 0) ≤ 2
   unfolding along
   sound-before j k hj hk m e =
       let base : Point = at (min .x) (inner .minimum .y) (inner .minimum .z) in
@@ -62,11 +53,9 @@ module _ (shape : Point) (lent : ℕ) (min max : Point) (h : Held shape lent min
         | Z ↦ (omega arith, omega (arith, h .spans Z))
       ]))
 
-  pub slices-sound : SlicesSound vs start wide (stride shape Y) high (stride shape Z) deep
-  slices-sound k hk = record {
-    each = λ j hj i hi. sound-at i j k (omega arith) (omega arith) (omega arith);
-    between = λ two j hj.
-        each-of-two (λ (m : ℕ). class (getD vs (start + k * stride shape Z + j * stride shape Y + wide + m) 0) ≤ 2)
-        (rw add-zero (sound-at wide j k (omega arith) (omega arith) (omega arith)))
-        (sound-before (j + 1) k (omega arith) (omega arith) _ (omega (arith, two, add-mul j 1 (stride shape Y), one-mul (stride shape Y))));
-  }
+  -- So where rows are two voxels apart neither of those is bad.
+  pub gap-good : (j k : ℕ) → suc j < highOf inner → k < deepOf inner → stride shape Y ≡ wideOf inner + 2 → NoneBad vs (start + k * stride shape Z + j * stride shape Y + wideOf inner) 2
+  gap-good j k hj hk two =
+      each-of-two (λ (m : ℕ). class (getD vs (start + k * stride shape Z + j * stride shape Y + wideOf inner + m) 0) ≤ 2)
+      (rw add-zero (sound-at (wideOf inner) j k (omega arith) (omega arith) (omega arith)))
+      (sound-before (j + 1) k (omega arith) (omega arith) _ (omega (arith, two, add-mul j 1 (stride shape Y), one-mul (stride shape Y))))

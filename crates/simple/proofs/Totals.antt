@@ -1,52 +1,38 @@
--- Sums over indices a stride apart: of two runs, of rows and what lies between them, at most so much, and how many quads are listed.
+-- Sums over indices a stride apart: of rows and what lies between them, of what the loops count, and how many quads are listed.
 use mathlib.Core.Bool.{Bool, true, false}
 use mathlib.Core.List.{List}
 use mathlib.Core.Path.{_≡_, refl}
 use Prim.Native.Nat.{ℕ, zero, suc, _+_, _*_, _≤_, _<_}
-use native.Mathlib.Nat.{add-zero, zero-add, suc-add, zero-mul, suc-mul, mul-one}
+use native.Mathlib.Nat.{zero-add, suc-add, zero-mul, suc-mul, mul-one, mul-le-mul-left}
 use native.Mathlib.Omega.{arith}
-use lib.ListN.{length, getD, length-append}
+use lib.ListN.{length, getD}
 use Rattle.geometry.specs.Axes.{bit}
-use Rattle.geometry.specs.Point.{at}
+use Rattle.geometry.specs.Point.{Point, at}
 use Rattle.geometry.proofs.Tests.{bit-at-most}
 use Rattle.voxels.specs.Voxel.{shows}
 use Rattle.voxels.specs.Visible.{offsetIndex}
-use Rattle.voxels.specs.Inner.{keptIf, inStep}
-use Rattle.simple.specs.Inner.{showsAt, voxelQuad, rowQuads, sliceQuads, slicesQuads, total, shownAt, rowShown, sliceShown, slicesShown, RowReady}
+use Rattle.voxels.specs.Loop.{looped, stepBy, summed, stand, onBy, inStep}
+use Rattle.voxels.specs.Rows.{keptIf}
+use Rattle.voxels.proofs.Loops.{onward-by, onward-both, sums-join, loop-parts, loop-more, loop-length, sum-at-most}
+use Rattle.simple.specs.declared.rows.Rows.{Rows}
+use Rattle.simple.specs.declared.rows.Slices.{Slices}
+use Rattle.simple.specs.Ready.{showsAt, RowReady, RowsReady, reach}
+use Rattle.simple.specs.Count.{shownAt, rowShown, rowsShown, slicesShown}
+use Rattle.simple.specs.List.{voxelQuad, rowQuads, rowsQuads, slicesQuads}
 use Rattle.simple.proofs.Neighbours.{beyond-at}
 
--- ---- any sum
+-- ---- a run and its rows
 
-module _ (g : ℕ → ℕ) where
-  -- A sum is that of its first so many and that of the rest.
-  pub total-join : (d m n i : ℕ) → total g d i (m + n) ≡ total g d i m + total g d (i + m * d) n
-  unfolding total
-  total-join d zero n i = rw (zero-add, zero-add, zero-mul, add-zero)
-  total-join d (suc m) n i =
-      let on : i + d + m * d ≡ i + suc m * d = omega (arith, suc-mul m d) in
-      rw (suc-add m n, total-join d m n (i + d), on) (omega arith)
-
-  -- With one more,
-  pub total-more : (d i k : ℕ) → total g d i (k + 1) ≡ total g d i k + g (i + k * d)
-  unfolding total
-  total-more d i k = rw (total-join d k 1 i, add-zero)
-
-  -- and where each is at most so much.
-  pub total-at-most : (most d n i : ℕ) → ((j : ℕ) → g j ≤ most) → total g d i n ≤ n * most
-  unfolding total
-  total-at-most most d zero i h = omega arith
-  total-at-most most d (suc n) i h = omega (arith, h i, total-at-most most d n (i + d) h, suc-mul n most)
-
-  -- A run is the rows that lie in it, a stride apart, and what lies between them.
-  pub total-flat : (wide gap d : ℕ) → d ≡ wide + gap → (h i : ℕ)
-      → total g 1 i (h * d + wide) ≡ total (λ (j : ℕ). total g 1 j wide) d i (h + 1) + total (λ (j : ℕ). total g 1 j gap) d (i + wide) h
-  unfolding total
-  total-flat wide gap d is zero i = rw (zero-mul, zero-add) (omega arith)
-  total-flat wide gap d is (suc h) i =
-      let long : suc h * d + wide ≡ wide + (gap + (h * d + wide)) = omega (arith, suc-mul h d) in
-      let next : i + wide + gap ≡ i + d = omega arith in
-      let after : i + wide + d ≡ i + d + wide = omega arith in
-      rw (long, total-join 1 wide (gap + (h * d + wide)) i, total-join 1 gap (h * d + wide) (i + wide * 1), mul-one, mul-one, next, suc-add h 1, after, total-flat wide gap d is h (i + d)) (omega arith)
+-- A run is the rows that lie in it, a stride apart, and what lies between them.
+pub flat-sum : (g : ℕ → ℕ) (wide gap d : ℕ) → d ≡ wide + gap → (h i : ℕ)
+    → summed g 1 i (h * d + wide) ≡ summed (λ (j : ℕ). summed g 1 j wide) d i (h + 1) + summed (λ (j : ℕ). summed g 1 j gap) d (i + wide) h
+unfolding looped
+flat-sum g wide gap d is zero i = rw (zero-mul, zero-add) (omega arith)
+flat-sum g wide gap d is (suc h) i =
+    let long : suc h * d + wide ≡ wide + (gap + (h * d + wide)) = omega (arith, suc-mul h d) in
+    let next : i + wide + gap ≡ i + d = omega arith in
+    let after : i + wide + d ≡ i + d + wide = omega arith in
+    rw (long, loop-parts sums-join (stepBy 1) g wide (gap + (h * d + wide)) i, loop-parts sums-join (stepBy 1) g gap (h * d + wide), onward-by, onward-by, mul-one, mul-one, next, suc-add h 1, after, flat-sum g wide gap d is h (i + d)) (omega arith)
 
 -- ---- what the loops count
 
@@ -59,30 +45,32 @@ module _ (vs : List ℕ) (o : ℕ) where
   -- a row as many as it has voxels,
   pub row-at-most : (wide i : ℕ) → rowShown vs o wide i ≤ wide
   unfolding rowShown
-  row-at-most wide i = omega (arith, total-at-most (shownAt vs o) 1 1 wide i voxel-at-most, mul-one wide)
+  row-at-most wide i = omega (arith, sum-at-most (stepBy 1) (shownAt vs o) 1 wide i voxel-at-most, mul-one wide)
 
-  -- a slice,
-  pub slice-at-most : (wide d high i : ℕ) → sliceShown vs o wide d high i ≤ high * wide
-  unfolding sliceShown
-  slice-at-most wide d high i = total-at-most (rowShown vs o wide) wide d high i (row-at-most wide)
+  -- rows,
+  pub rows-at-most : (rows : Rows) (i : ℕ) → rowsShown vs o rows i ≤ rows .high * rows .wide
+  unfolding rowsShown
+  rows-at-most rows i = sum-at-most (stepBy (rows .stride .0)) (rowShown vs o (rows .wide)) (rows .wide) (rows .high) i (row-at-most (rows .wide))
 
-  -- and all slices.
-  pub slices-at-most : (wide d high e deep i : ℕ) → slicesShown vs o wide d high e deep i ≤ deep * (high * wide)
+  -- which is no more than they reach over,
+  pub rows-reach : {lent : List ℕ} {offset j : ℕ} {rows : Rows} → RowsReady lent offset j rows → (i : ℕ) → rowsShown vs o rows i ≤ reach rows
+  rows-reach {rows = rows} ready i = omega (arith, rows-at-most rows i, mul-le-mul-left {m = rows .wide} {n = rows .stride .0} (rows .high) (ready .steps .apart))
+
+  -- and slices.
+  pub slices-at-most : (slices : Slices) (i : ℕ) → slicesShown vs o slices i ≤ slices .deep * (slices .rows .high * slices .rows .wide)
   unfolding slicesShown
-  slices-at-most wide d high e deep i = total-at-most (sliceShown vs o wide d high) (high * wide) e deep i (slice-at-most wide d high)
+  slices-at-most slices i = sum-at-most (stepBy (slices .stride .0)) (rowsShown vs o (slices .rows)) (slices .rows .high * slices .rows .wide) (slices .deep) i (rows-at-most (slices .rows))
 
   -- One more voxel of a row, whose neighbour is as far from the first's.
-  pub row-next : {lent i wide j : ℕ} → RowReady lent o i wide → j ≡ offsetIndex i o → (k : ℕ) → k < wide → {c s : ℕ} → c ≡ rowShown vs o k i → s ≡ bit (shows (getD vs (i + k) 0) (getD vs (j + k) 0)) → c + s ≡ rowShown vs o (k + 1) i
+  pub row-next : {i wide j : ℕ} → RowReady vs o i wide → j ≡ offsetIndex i o → (k : ℕ) → k < wide → {c s : ℕ} → c ≡ rowShown vs o k i → s ≡ bit (shows (getD vs (i + k) 0) (getD vs (j + k) 0)) → c + s ≡ rowShown vs o (k + 1) i
   unfolding rowShown shownAt showsAt
-  row-next {lent} {i} {wide} ready at-j k h is e = rw (is, e, total-more (shownAt vs o) 1 i k, mul-one k, at-j, beyond-at lent o i wide ready k h)
+  row-next {i} {wide} ready at-j k h is e = rw (is, e, loop-more sums-join (stepBy 1) (shownAt vs o) k i, onward-by 1 i k, mul-one k, at-j, beyond-at vs o i wide ready k h)
 
 -- ---- how many quads are listed
 
 -- As many as each index has, summed.
-pub in-step-length : {A : Type 0} (d : ℕ) (g : ℕ → ℕ → List A) (h : ℕ → ℕ) → ((a i : ℕ) → length (g a i) ≡ h i) → (n a i : ℕ) → length (inStep d g a i n) ≡ total h d i n
-unfolding inStep total
-in-step-length d g h is zero a i = refl
-in-step-length d g h is (suc n) a i = rw (length-append (g a i) (inStep d g (a + 1) (i + d) n), is a i, in-step-length d g h is n (a + 1) (i + d))
+pub in-step-length : {A : Type 0} (d : ℕ) (g : ℕ → ℕ → List A) (h : ℕ → ℕ) → ((a i : ℕ) → length (g a i) ≡ h i) → (n a i : ℕ) → length (inStep d g a i n) ≡ summed h d i n
+in-step-length d g h is n a i = loop-length (onBy d) _ (stepBy d) h n (stand a i) i (λ k l. rw (onward-both d a i k, onward-by d i k) (is (a + k) (i + k * d)))
 
 -- What is kept is one or none.
 kept-length : {A : Type 0} (b : Bool) (a : A) → length (keptIf b a) ≡ bit b
@@ -91,21 +79,21 @@ kept-length false a = refl
 
 module _ (vs : List ℕ) (o : ℕ) where
   -- Of a voxel,
-  pub voxel-length : (y z x i : ℕ) → length (voxelQuad vs o y z x i) ≡ shownAt vs o i
+  pub voxel-length : (p : Point) (i : ℕ) → length (voxelQuad vs o p i) ≡ shownAt vs o i
   unfolding voxelQuad shownAt
-  voxel-length y z x i = kept-length (showsAt vs o i) (at x y z)
+  voxel-length p i = kept-length (showsAt vs o i) p
 
   -- a row,
-  pub row-length : (x wide z y i : ℕ) → length (rowQuads vs o x wide z y i) ≡ rowShown vs o wide i
+  pub row-length : (wide : ℕ) (p : Point) (i : ℕ) → length (rowQuads vs o wide p i) ≡ rowShown vs o wide i
   unfolding rowQuads rowShown
-  row-length x wide z y i = in-step-length 1 (voxelQuad vs o y z) (shownAt vs o) (voxel-length y z) wide x i
+  row-length wide p i = in-step-length 1 _ (shownAt vs o) (λ x. voxel-length (at x (p .y) (p .z))) wide (p .x) i
 
-  -- a slice
-  pub slice-length : (x wide y d high z i : ℕ) → length (sliceQuads vs o x wide y d high z i) ≡ sliceShown vs o wide d high i
-  unfolding sliceQuads sliceShown
-  slice-length x wide y d high z i = in-step-length d (rowQuads vs o x wide z) (rowShown vs o wide) (row-length x wide z) high y i
+  -- rows
+  pub rows-length : (rows : Rows) (p : Point) (i : ℕ) → length (rowsQuads vs o rows p i) ≡ rowsShown vs o rows i
+  unfolding rowsQuads rowsShown
+  rows-length rows p i = in-step-length (rows .stride .0) _ (rowShown vs o (rows .wide)) (λ y. row-length (rows .wide) (at (p .x) y (p .z))) (rows .high) (p .y) i
 
-  -- and all slices.
-  pub slices-length : (x wide y d high z e deep i : ℕ) → length (slicesQuads vs o x wide y d high z e deep i) ≡ slicesShown vs o wide d high e deep i
+  -- and slices.
+  pub slices-length : (slices : Slices) (p : Point) (i : ℕ) → length (slicesQuads vs o slices p i) ≡ slicesShown vs o slices i
   unfolding slicesQuads slicesShown
-  slices-length x wide y d high z e deep i = in-step-length e (sliceQuads vs o x wide y d high) (sliceShown vs o wide d high) (slice-length x wide y d high) deep z i
+  slices-length slices p i = in-step-length (slices .stride .0) _ (rowsShown vs o (slices .rows)) (λ z. rows-length (slices .rows) (at (p .x) (p .y) z)) (slices .deep) (p .z) i

@@ -1,7 +1,7 @@
 -- The public function's contract leaves one outcome: of any two that it allows, the results are equal and the outputs at exit are equal. The theorem is about the
 -- contract itself, as the function's generated `Reads` has it (`Post`), and not about a copy of it.
 use mathlib.Core.Path.{_≡_, sym, _∙_, ap}
-use Rattle.simple.specs.Unit.{UnitOutcome}
+use Rattle.listing.specs.Outcome.{MeshOutcome}
 use contract.Lifetimes
 use borrow.Fn.World
 use borrow.Fn.Kinds
@@ -16,4 +16,4 @@ pub visible-block-faces-unique : (κs : Lifetimes.Lfts 2) (a : World.ArgsD visib
     → (r ≡ r′) × (s .1 .1 .1 .1 .1 .0 .now ≡ s′ .1 .1 .1 .1 .1 .0 .now)
 visible-block-faces-unique κs a r r′ s s′ p q =
     let e = p ∙ sym q in
-    (ap (λ (o : UnitOutcome). o .answer) e, ap (λ (o : UnitOutcome). o .out) e)
+    (ap (λ (o : MeshOutcome). o .answer) e, ap (λ (o : MeshOutcome). o .out) e)

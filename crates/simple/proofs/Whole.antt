@@ -1,30 +1,33 @@
 -- From the loops to the groups: that all six faces can be counted and listed, that the counts are the groups', and that the runs lie apart.
 use mathlib.Core.List.{List, [], _∷_, map}
 use mathlib.Core.Path.{_≡_, refl, sym, _∙_, ap}
-use Prim.Native.Nat.{ℕ, zero, suc, _+_, _-_, _*_, _%_, _≤_, _<_}
+use Prim.Native.Nat.{ℕ, zero, suc, _+_, _*_, _%_, _≤_, _<_}
 use native.Mathlib.Omega.{arith}
 use lib.ListN.{length, length-map, getD, replicate}
 use lib.Seq.{ext-getD}
 use lib.Dec.{eqb}
 use borrow.Author.Tests.{eqb-true, eqb-false}
-use Rattle.geometry.specs.declared.axis.Axis.the-variants.{Y, Z}
+use Rattle.geometry.specs.declared.axis.Axis.the-variants.{X, Y, Z}
 use Rattle.geometry.specs.declared.face.OrientedBlockFace.{OrientedBlockFace}
-use Rattle.geometry.specs.Point.{Point}
-use Rattle.geometry.specs.Axes.{nAxis}
+use Rattle.geometry.specs.Point.{Point, along}
 use Rattle.geometry.proofs.Refusals.{split}
 use Rattle.voxels.specs.declared.extent.Extent.{Extent}
 use Rattle.voxels.specs.declared.index.Stride.{Stride}
-use Rattle.voxels.specs.Shape.{index, stride, field}
-use Rattle.voxels.specs.Extent.{interior}
+use Rattle.voxels.specs.Shape.{index, field}
 use Rattle.voxels.specs.Visible.{modulus}
-use Rattle.voxels.specs.Inner.{mostVoxels, Entered, SoundAround, output, MadeGroups}
-use Rattle.voxels.proofs.Entered.{minimum-index, entered-stride}
-use Rattle.simple.specs.Unit.{unitNumbers, numbersOf, unitGroup, unitGroups}
-use Rattle.simple.specs.Inner.{slicesQuads, slicesShown, offsetOf, SlicesReady, EachFace, Room, SlicesSound, Apart, Counted, Listed, kernelStride, noFace, KernelOf, startOf, Starts}
-use Rattle.simple.proofs.Faces.{FaceReady, face-ready}
-use Rattle.simple.proofs.Soundness.{slices-sound}
+use Rattle.voxels.specs.Entered.{mostVoxels}
+use Rattle.voxels.proofs.Entered.{below, bound-small}
+use Rattle.listing.specs.Pushed.{output, MadeGroups}
+use Rattle.rules.specs.Unit.{unitGroup, unitGroups}
+use Rattle.simple.specs.declared.rows.Slices.{Slices}
+use Rattle.simple.specs.Unit.{unitNumbers, numbersOf}
+use Rattle.simple.specs.Ready.{offsetOf, EachFace, SlicesReady, Room, SlicesCountable}
+use Rattle.simple.specs.Count.{slicesShown, SlicesCounted}
+use Rattle.simple.specs.List.{slicesQuads, Apart, Small, SlicesListable, SlicesListed}
+use Rattle.simple.specs.Kernel.{Meshable, slicesOf, noFace, KernelOf, startOf, Starts}
+use Rattle.simple.proofs.Faces.{FaceReady, face-ready, few-in-slices, few-in-all}
 use Rattle.simple.proofs.Totals.{slices-length, slices-at-most}
-use Rattle.simple.proofs.Sixes.{counted-zeros}
+use Rattle.simple.proofs.Sixes.{zeros-room, counted-zeros}
 use Rattle.simple.proofs.Runs.{runs-none, joined-apart, listed-joined}
 
 -- The lengths of the faces' lists, face by face.
@@ -46,65 +49,54 @@ start-above counts (suc n) f h =
     (λ t. rw (eqb-true f n t) (omega arith))
     (λ d. let other = eqb-false f n d in omega (arith, start-above counts n f (omega arith)))
 
--- What is meshed: the interior of an accepted entry without a bad voxel, by six faces and their strides, from the first index on by two strides.
-pub record Meshing (lent : ℕ) (shape : Point) (inner : Extent) (vs : List ℕ) (faces : List OrientedBlockFace) (strides : List Stride) (i d e : ℕ) : Type 0 where
-  pub entered : Entered lent shape inner
-  pub sound : SoundAround vs shape inner
+-- What is meshed: an extent that can be, by six faces and their strides, from the first index on through its slices.
+pub record Meshing (vs : List ℕ) (shape : Point) (inner : Extent) (faces : List OrientedBlockFace) (strides : List Stride) (i : ℕ) (slices : Slices) : Type 0 where
+  pub can : Meshable vs shape inner
   pub six : length faces ≡ 6
   pub kernel : KernelOf shape faces strides
   pub first : i ≡ index shape (inner .minimum) % modulus
-  pub rows : d ≡ stride shape Y % modulus
-  pub slices : e ≡ stride shape Z % modulus
+  pub through : slices ≡ slicesOf shape inner
 
-module _ {lent : ℕ} {shape : Point} {inner : Extent} {vs : List ℕ} {faces : List OrientedBlockFace} {strides : List Stride} {i d e : ℕ} (m : Meshing lent shape inner vs faces strides i d e) where
-  abbrev wide : ℕ
-  wide = inner .bound .x - inner .minimum .x
-
-  abbrev high : ℕ
-  high = inner .bound .y - inner .minimum .y
-
-  abbrev deep : ℕ
-  deep = inner .bound .z - inner .minimum .z
-
+module _ {vs : List ℕ} {shape : Point} {inner : Extent} {faces : List OrientedBlockFace} {strides : List Stride} {i : ℕ} {slices : Slices} (m : Meshing vs shape inner faces strides i slices) where
   abbrev faceAt : ℕ → OrientedBlockFace
   faceAt f = getD faces f noFace
 
-  -- What a face lists.
+  -- What a face lists, and how many.
   abbrev quadsOf : ℕ → List Point
-  quadsOf f = slicesQuads vs (offsetOf strides f) (inner .minimum .x) wide (inner .minimum .y) d high (inner .minimum .z) e deep i
+  quadsOf f = slicesQuads vs (offsetOf strides f) slices (inner .minimum) i
 
-  ready-at : (f : ℕ) → f < 6 → FaceReady lent shape inner (faceAt f) vs (offsetOf strides f) i d e
-  unfolding kernelStride
-  ready-at f h = face-ready lent shape inner (m .entered) (faceAt f) vs (offsetOf strides f) (stride shape (nAxis (faceAt f)) % modulus) i d e (m .first) refl (m .kernel f h) (m .rows) (m .slices)
+  abbrev shownOf : ℕ → ℕ
+  shownOf f = slicesShown vs (offsetOf strides f) slices i
 
-  -- All that the loops read was lent,
-  pub all-ready : EachFace (λ (f : ℕ). SlicesReady lent (offsetOf strides f) i wide d high e deep)
-  all-ready f h = ready-at f h .ready
+  ready-at : (f : ℕ) → f < 6 → FaceReady vs shape inner (faceAt f) (offsetOf strides f) i
+  ready-at f h = face-ready (m .can) (faceAt f) (m .first) (m .kernel f h)
 
-  -- none of it is bad,
-  pub all-sound : SlicesSound vs i wide d high e deep
-  all-sound =
-      let entered = m .entered in
-      let first : i ≡ index shape (interior (entered .min) (entered .max) .minimum) = rw (entered .is) at (minimum-index lent shape inner entered (m .first)) in
-      rw (first, entered-stride lent shape inner entered Y (m .rows), entered-stride lent shape inner entered Z (m .slices), entered .is)
-      (slices-sound shape lent (entered .min) (entered .max) (entered .held) vs (rw (entered .is) at (m .sound)))
+  -- All that the loops read is ready,
+  all-ready : EachFace (λ (f : ℕ). SlicesReady vs (offsetOf strides f) i slices)
+  all-ready f h = rw (m .through) (ready-at f h .ready)
 
   -- and each face lists its group, of no more quads than a shape has voxels.
-  pub group-at : (f : ℕ) → f < 6 → quadsOf f ≡ unitGroup inner (field shape vs) (faceAt f)
-  group-at f h = sym (ready-at f h .group)
+  group-at : (f : ℕ) → f < 6 → quadsOf f ≡ unitGroup inner (field shape vs) (faceAt f)
+  group-at f h = rw (m .through) (sym (ready-at f h .group))
 
-  pub few : deep * e ≤ mostVoxels
-  few = ready-at 0 (omega arith) .few
+  few : slices .deep * slices .stride .0 ≤ mostVoxels
+  few = rw (m .through) (few-in-slices (m .can))
 
-  shown : (f : ℕ) → length (quadsOf f) ≡ slicesShown vs (offsetOf strides f) wide d high e deep i
-  shown f = slices-length vs (offsetOf strides f) _ wide _ d high _ e deep i
+  shown : (f : ℕ) → length (quadsOf f) ≡ shownOf f
+  shown f = slices-length vs (offsetOf strides f) slices (inner .minimum) i
 
-  most : (f : ℕ) → slicesShown vs (offsetOf strides f) wide d high e deep i ≤ mostVoxels
-  most f = omega (arith, slices-at-most vs (offsetOf strides f) wide d high e deep i, ready-at 0 (omega arith) .few-in)
+  most : (f : ℕ) → shownOf f ≤ mostVoxels
+  most f =
+      let all : slices .deep * (slices .rows .high * slices .rows .wide) ≤ mostVoxels = rw (m .through) (few-in-all (m .can)) in
+      omega (arith, slices-at-most vs (offsetOf strides f) slices i)
+
+  -- So they can be counted from zeros.
+  pub all-countable : SlicesCountable vs strides (replicate 6 0) i slices
+  all-countable = record { each = all-ready; room = zeros-room (omega (arith, few)) }
 
   -- After counting
-  module _ {counts : List ℕ} (counted : Counted (replicate 6 0) counts (λ (f : ℕ). slicesShown vs (offsetOf strides f) wide d high e deep i)) where
-    count-at : (f : ℕ) → f < 6 → getD counts f 0 ≡ slicesShown vs (offsetOf strides f) wide d high e deep i
+  module _ {counts : List ℕ} (counted : SlicesCounted vs strides (replicate 6 0) counts i slices) where
+    count-at : (f : ℕ) → f < 6 → getD counts f 0 ≡ shownOf f
     count-at f h = counted-zeros counted f h
 
     -- the counts are the groups',
@@ -135,16 +127,27 @@ module _ {lent : ℕ} {shape : Point} {inner : Extent} {vs : List ℕ} {faces : 
 
     -- From cursors that stand there all runs can be listed, since they lie apart,
     module _ {cursors : List ℕ} {end : ℕ} (starts : Starts counts cursors end) where
-      pub cursors-room : Room cursors (deep * e)
-      cursors-room = record { all = starts .all; each = λ f h. omega (arith, starts .each f h, start-small f (omega arith), few) }
-
-      pub runs-apart : Apart cursors quadsOf
+      runs-apart : Apart cursors quadsOf
       unfolding startOf
       runs-apart =
           joined-apart (unitGroup inner (field shape vs)) faces noFace (startOf counts) refl start-after cursors quadsOf (m .six) (starts .each) (λ f h. sym (group-at f h))
 
+      cursors-room : Room cursors (slices .deep * slices .stride .0)
+      cursors-room = record { all = starts .all; each = λ f h. omega (arith, starts .each f h, start-small f (omega arith), few) }
+
+      -- No coordinate is large.
+      corner-small : Small (inner .minimum) (slices .rows .wide) (slices .rows .high) (slices .deep)
+      unfolding along
+      corner-small =
+          let lo = below _ shape inner (m .can .entered) in
+          let hi = bound-small _ shape inner (m .can .entered) in
+          rw (m .through) (record { x = omega (arith, lo X, hi X); y = omega (arith, lo Y, hi Y); z = omega (arith, lo Z, hi Z) })
+
+      pub all-listable : SlicesListable vs strides cursors slices i (inner .minimum)
+      all-listable = record { all = record { can = record { each = all-ready; room = cursors-room }; apart = runs-apart }; small = corner-small }
+
       -- and what they leave are the groups in turn.
-      pub groups-made : {was out now : List ℕ} → Listed was cursors quadsOf out now → MadeGroups unitNumbers numbersOf (unitGroups inner (field shape vs) faces) was out end counts
+      pub groups-made : {was out now : List ℕ} → SlicesListed vs strides slices i (inner .minimum) was cursors out now → MadeGroups unitNumbers numbersOf (unitGroups inner (field shape vs) faces) was out end counts
       unfolding startOf unitGroups
       groups-made listed = record {
         is = ap (output _) (starts .last)

@@ -1,53 +1,29 @@
--- Unit meshing: document 01, 'Unit meshing', and of 'Refusal numbers' what stands below the table; simple.rs lines 38 to 87.
-use mathlib.Core.List.{List, [], _∷_, map}
+-- The whole outcome of unit meshing: document 01, 'Unit meshing', and of 'Refusal numbers' what stands below the table. Its groups are the rules' (crates/rules/specs/Unit.antt).
+use mathlib.Core.List.{List, [], _∷_}
 use Prim.Native.Nat.{ℕ}
-use lib.ListN.{replicate}
 use Rattle.geometry.specs.declared.face.OrientedBlockFace.{OrientedBlockFace}
-use Rattle.geometry.specs.Refusal.{Answer, accepted, refused, checked, follow}
+use Rattle.geometry.specs.Refusal.{Answer, checked}
 use Rattle.geometry.specs.Point.{Point}
 use Rattle.voxels.specs.declared.extent.Extent.{Extent}
 use Rattle.voxels.specs.Shape.{Field, field}
-use Rattle.voxels.specs.Extent.{interior, scan, those}
-use Rattle.voxels.specs.Visible.{visible}
+use Rattle.voxels.specs.Extent.{interior}
 use Rattle.voxels.specs.Checks.{unitChecks}
-use Rattle.voxels.specs.Listing.{Laid, lay, atExit}
-use Rattle.simple.specs.declared.UnitAnswer.{UnitAnswer}
-
--- "A group lists the minima .. of all visible interior voxels in scan order" (61 to 86). The Rust walks the interior once and appends to each face's group as it goes;
--- each group on its own is this.
-unfoldable pub unitGroup : Extent → Field → OrientedBlockFace → List Point
-unitGroup inner v f = those (visible f v) (scan inner)
-
--- "Six groups, one a face, in the order given."
-unfoldable pub unitGroups : Extent → Field → List OrientedBlockFace → List (List Point)
-unitGroups inner v faces = map (unitGroup inner v) faces
+use Rattle.listing.specs.Outcome.{listedAfter, MeshOutcome, listedOutcome}
+use Rattle.rules.specs.Unit.{unitGroups}
 
 -- How many numbers a listed unit quad has: "three numbers each".
 abbrev pub unitNumbers : ℕ
 unitNumbers = 3
 
--- Which they are: its minimum's (83).
+-- Which they are: its minimum's (simple.rs 83).
 abbrev pub numbersOf : Point → List ℕ
 numbersOf p = p .x ∷ p .y ∷ p .z ∷ []
 
--- Document 01's answer as the struct that the call gives: "A refusal gives zeros for all counts."
-abbrev pub unitAnswer : Answer (List ℕ) → UnitAnswer
-unitAnswer (accepted counts) = record { refusal = 0; place = 0; counts = counts }
-unitAnswer (refused n p) = record { refusal = n; place = p; counts = replicate 6 0 }
+-- Unit meshing of a field's interior after an entry: the entry refuses, then 9; otherwise the answer has the number of quads of each group. Where the entry passes the output holds the listing, as
+-- far as it fits.
+unfoldable pub unitFrom : Answer (Unit {0}) → Extent → Field → List OrientedBlockFace → List ℕ → MeshOutcome
+unitFrom entry inner v faces out = listedOutcome (listedAfter entry unitNumbers numbersOf (unitGroups inner v faces) out)
 
--- All that a call leaves: its answer, and the output at exit.
-pub record UnitOutcome : Type 0 where
-  pub answer : UnitAnswer
-  pub out : List ℕ
-
--- The outcome of an answer and an output.
-abbrev pub outcome : UnitAnswer → List ℕ → UnitOutcome
-outcome answer out = record { answer = answer; out = out }
-
--- The whole outcome of unit meshing. It refuses by 1 to 6 and 8, then by 9; otherwise the answer has the number of quads of each group. Where the entry checks pass the
--- output holds the listing, as far as it fits.
-unfoldable pub visibleBlockFaces : List ℕ → Point → Point → Point → List OrientedBlockFace → List ℕ → UnitOutcome
-visibleBlockFaces voxels shape min max faces out =
-    let entry : Answer (Unit {0}) = checked (unitChecks voxels shape min max faces) in
-    let laid : Laid = lay unitNumbers numbersOf (unitGroups (interior min max) (field shape voxels) faces) out in
-    outcome (unitAnswer (follow entry (laid .answer))) (atExit entry (laid .out) out)
+-- The whole outcome of a call: of the block's own field, after 1 to 6 and 8.
+unfoldable pub visibleBlockFaces : List ℕ → Point → Point → Point → List OrientedBlockFace → List ℕ → MeshOutcome
+visibleBlockFaces voxels shape min max faces out = unitFrom (checked (unitChecks voxels shape min max faces)) (interior min max) (field shape voxels) faces out

@@ -5,13 +5,13 @@
 // one run of voxels, without a branch, less the voxels between its rows. Other slices are counted row
 // by row, and a voxel that is empty is passed before any neighbor is looked at.
 ghost use mathlib.Core.Path.{_≡_};
-ghost use Prim.Native.Nat.{_+_, _-_, _*_, _<_, _≤_};
-ghost use lib.ListN.{length, getD};
+ghost use Prim.Native.Nat.{_≤_};
 ghost use Rattle.geometry.specs.Axes.{bit};
 ghost use Rattle.voxels.specs.Voxel as rule;
-ghost use Rattle.voxels.specs.Visible.{offsetIndex};
-ghost use Rattle.voxels.specs.Inner.{mostVoxels};
-ghost use Rattle.simple.specs.Inner.{offsetOf, shownAt, rowShown, sliceShown, slicesShown, RowReady, SliceReady, SlicesReady, EachFace, Room, Sound, SliceSound, SlicesSound, Flat, Within, Counted};
+ghost use Rattle.simple.specs.Ready.{RowReady, VoxelCountable, RowCountable, RowsCountable, SlicesCountable};
+ghost use Rattle.simple.specs.Count.{rowShown, VoxelCounted, RowCounted, RowsCounted, SlicesCounted, FlatCountable, RunCountable, RunCounted};
+use crate::rows::Rows;
+use crate::rows::Slices;
 use voxels::index::Stride;
 use voxels::index::VoxelIndex;
 use voxels::voxel;
@@ -31,13 +31,12 @@ fn shown(voxel: u16, neighbor: u16) -> u16
 }
 
 // How many voxels of a run show their faces to those that a stride leads to.
-fn count_run(voxels: &[u16], start: VoxelIndex, stride: Stride, long: u32) -> u16
-    requires { ⌜ RowReady (length (now voxels)) (stride .0) (start .0) long ⌝ }
-    requires { ⌜ Sound (now voxels) (start .0) long ⌝ }
-    ensures { λ r. ⌜ r ≡ rowShown (now (voxels .entry)) (stride .0) long (start .0) ⌝ }
+fn count_run(voxels: &[u16], at: VoxelIndex, stride: Stride, long: u32) -> u16
+    requires { ⌜ RowReady (now voxels) (stride .0) (at .0) long ⌝ }
+    ensures { λ r. ⌜ r ≡ rowShown (now (voxels .entry)) (stride .0) long (at .0) ⌝ }
 {
-    let beyond = start.offset(stride);
-    let i = start.0 as usize;
+    let beyond = at.offset(stride);
+    let i = at.0 as usize;
     let j = beyond.0 as usize;
     let mut count: u16 = 0;
     let mut k: usize = 0;
@@ -50,11 +49,9 @@ fn count_run(voxels: &[u16], start: VoxelIndex, stride: Stride, long: u32) -> u1
 }
 
 // Counts the faces that a voxel shows.
-fn count_voxel(voxels: &[u16], kernel_strides: [Stride; 6], counts: &mut [u64], index: VoxelIndex)
-    requires { ⌜ (index .0 < length (now voxels)) × (rule.class (getD (now voxels) (index .0) 0) ≤ 2) ⌝ }
-    requires { ⌜ EachFace (λ f. offsetIndex (index .0) (offsetOf «kernel_strides» f) < length (now voxels)) ⌝ }
-    requires { ⌜ Room (now counts) 1 ⌝ }
-    ensures { λ _. ⌜ Counted (now (counts .entry)) (now (counts .exit)) (λ f. shownAt (now (voxels .entry)) (offsetOf «kernel_strides» f) (index .0)) ⌝ }
+fn count_voxel(voxels: &[u16], strides: [Stride; 6], counts: &mut [u64], index: VoxelIndex)
+    requires { ⌜ VoxelCountable (now voxels) strides (now counts) (index .0) ⌝ }
+    ensures { λ _. ⌜ VoxelCounted (now (voxels .entry)) strides (now (counts .entry)) (now (counts .exit)) (index .0) ⌝ }
 {
     let i = index.0 as usize;
     let sight = voxel::sight(voxels[i]);
@@ -63,7 +60,7 @@ fn count_voxel(voxels: &[u16], kernel_strides: [Stride; 6], counts: &mut [u64], 
     }
     let mut f: usize = 0;
     while f < 6 {
-        let stride = kernel_strides[f];
+        let stride = strides[f];
         let neighbor = index.offset(stride);
         let j = neighbor.0 as usize;
         if voxels[j] < sight {
@@ -74,47 +71,31 @@ fn count_voxel(voxels: &[u16], kernel_strides: [Stride; 6], counts: &mut [u64], 
 }
 
 // Counts the faces that a row shows.
-fn count_row(
-    voxels: &[u16],
-    kernel_strides: [Stride; 6],
-    counts: &mut [u64],
-    start: VoxelIndex,
-    wide: u32,
-)
-    requires { ⌜ EachFace (λ f. RowReady (length (now voxels)) (offsetOf «kernel_strides» f) (start .0) wide) ⌝ }
-    requires { ⌜ Sound (now voxels) (start .0) wide ⌝ }
-    requires { ⌜ Room (now counts) wide × (start .0 + wide ≤ 2 * mostVoxels) ⌝ }
-    ensures { λ _. ⌜ Counted (now (counts .entry)) (now (counts .exit)) (λ f. rowShown (now (voxels .entry)) (offsetOf «kernel_strides» f) wide (start .0)) ⌝ }
+fn count_row(voxels: &[u16], strides: [Stride; 6], counts: &mut [u64], at: VoxelIndex, wide: u32)
+    requires { ⌜ RowCountable (now voxels) strides (now counts) (at .0) wide ⌝ }
+    ensures { λ _. ⌜ RowCounted (now (voxels .entry)) strides (now (counts .entry)) (now (counts .exit)) (at .0) wide ⌝ }
 {
     let mut k: u32 = 0;
-    let mut i = start.0;
+    let mut i = at.0;
     while k < wide {
-        count_voxel(voxels, kernel_strides, counts, VoxelIndex(i));
+        count_voxel(voxels, strides, counts, VoxelIndex(i));
         k += 1;
         i += 1;
     }
 }
 
 // Counts the faces that rows show, row by row.
-fn count_rows(
-    voxels: &[u16],
-    kernel_strides: [Stride; 6],
-    counts: &mut [u64],
-    start: VoxelIndex,
-    wide: u32,
-    y_stride: Stride,
-    high: u32,
-)
-    requires { ⌜ EachFace (λ f. SliceReady (length (now voxels)) (offsetOf «kernel_strides» f) (start .0) wide («y_stride» .0) high) ⌝ }
-    requires { ⌜ SliceSound (now voxels) (start .0) wide («y_stride» .0) high ⌝ }
-    requires { ⌜ Room (now counts) (high * «y_stride» .0) ⌝ }
-    ensures { λ _. ⌜ Counted (now (counts .entry)) (now (counts .exit)) (λ f. sliceShown (now (voxels .entry)) (offsetOf «kernel_strides» f) wide («y_stride» .0) high (start .0)) ⌝ }
+fn count_rows(voxels: &[u16], strides: [Stride; 6], counts: &mut [u64], at: VoxelIndex, rows: Rows)
+    requires { ⌜ RowsCountable (now voxels) strides (now counts) (at .0) rows ⌝ }
+    ensures { λ _. ⌜ RowsCounted (now (voxels .entry)) strides (now (counts .entry)) (now (counts .exit)) (at .0) rows ⌝ }
 {
-    let step = y_stride.0;
+    let wide = rows.wide;
+    let high = rows.high;
+    let step = rows.stride.0;
     let mut k: u32 = 0;
-    let mut i = start.0;
+    let mut i = at.0;
     while k < high {
-        count_row(voxels, kernel_strides, counts, VoxelIndex(i), wide);
+        count_row(voxels, strides, counts, VoxelIndex(i), wide);
         k += 1;
         i += step;
     }
@@ -123,22 +104,19 @@ fn count_rows(
 // Counts the faces that a run shows, less so many of each face.
 fn count_runs(
     voxels: &[u16],
-    kernel_strides: [Stride; 6],
+    strides: [Stride; 6],
     counts: &mut [u64],
     less: &[u64],
-    start: VoxelIndex,
+    at: VoxelIndex,
     long: u32,
 )
-    requires { ⌜ EachFace (λ f. RowReady (length (now voxels)) (offsetOf «kernel_strides» f) (start .0) long) ⌝ }
-    requires { ⌜ Sound (now voxels) (start .0) long ⌝ }
-    requires { ⌜ Room (now counts) long ⌝ }
-    requires { ⌜ Within (now less) (λ f. rowShown (now voxels) (offsetOf «kernel_strides» f) long (start .0)) ⌝ }
-    ensures { λ _. ⌜ Counted (now (counts .entry)) (now (counts .exit)) (λ f. rowShown (now (voxels .entry)) (offsetOf «kernel_strides» f) long (start .0) - getD (now (less .entry)) f 0) ⌝ }
+    requires { ⌜ RunCountable (now voxels) strides (now counts) (now less) (at .0) long ⌝ }
+    ensures { λ _. ⌜ RunCounted (now (voxels .entry)) strides (now (less .entry)) (now (counts .entry)) (now (counts .exit)) (at .0) long ⌝ }
 {
     let mut f: usize = 0;
     while f < 6 {
-        let stride = kernel_strides[f];
-        let run = count_run(voxels, start, stride, long) as u64;
+        let stride = strides[f];
+        let run = count_run(voxels, at, stride, long) as u64;
         counts[f] += run - less[f];
         f += 1;
     }
@@ -147,49 +125,36 @@ fn count_runs(
 // Counts the faces that a slice shows whose rows are two voxels apart, as one run.
 fn count_flat(
     voxels: &[u16],
-    kernel_strides: [Stride; 6],
+    strides: [Stride; 6],
     counts: &mut [u64],
-    start: VoxelIndex,
-    wide: u32,
-    y_stride: Stride,
-    high: u32,
+    at: VoxelIndex,
+    rows: Rows,
     long: u32,
 )
-    requires { ⌜ EachFace (λ f. SliceReady (length (now voxels)) (offsetOf «kernel_strides» f) (start .0) wide («y_stride» .0) high) ⌝ }
-    requires { ⌜ SliceSound (now voxels) (start .0) wide («y_stride» .0) high ⌝ }
-    requires { ⌜ Room (now counts) (high * «y_stride» .0) ⌝ }
-    requires { ⌜ Flat wide («y_stride» .0) high long ⌝ }
-    ensures { λ _. ⌜ Counted (now (counts .entry)) (now (counts .exit)) (λ f. sliceShown (now (voxels .entry)) (offsetOf «kernel_strides» f) wide («y_stride» .0) high (start .0)) ⌝ }
+    requires { ⌜ FlatCountable (now voxels) strides (now counts) (at .0) rows long ⌝ }
+    ensures { λ _. ⌜ RowsCounted (now (voxels .entry)) strides (now (counts .entry)) (now (counts .exit)) (at .0) rows ⌝ }
 {
+    let stride = rows.stride;
+    let high = rows.high - 1;
+    let first = at.0 + rows.wide;
+    let gaps = Rows {
+        wide: 2,
+        stride,
+        high,
+    };
     let mut between = [0u64; 6];
-    count_rows(
-        voxels,
-        kernel_strides,
-        &mut between,
-        VoxelIndex(start.0 + wide),
-        2,
-        y_stride,
-        high - 1,
-    );
-    count_runs(voxels, kernel_strides, counts, &between, start, long);
+    count_rows(voxels, strides, &mut between, VoxelIndex(first), gaps);
+    count_runs(voxels, strides, counts, &between, at, long);
 }
 
 // Counts the faces that a slice shows.
-fn count_slice(
-    voxels: &[u16],
-    kernel_strides: [Stride; 6],
-    counts: &mut [u64],
-    start: VoxelIndex,
-    wide: u32,
-    y_stride: Stride,
-    high: u32,
-)
-    requires { ⌜ EachFace (λ f. SliceReady (length (now voxels)) (offsetOf «kernel_strides» f) (start .0) wide («y_stride» .0) high) ⌝ }
-    requires { ⌜ SliceSound (now voxels) (start .0) wide («y_stride» .0) high ⌝ }
-    requires { ⌜ Room (now counts) (high * «y_stride» .0) ⌝ }
-    ensures { λ _. ⌜ Counted (now (counts .entry)) (now (counts .exit)) (λ f. sliceShown (now (voxels .entry)) (offsetOf «kernel_strides» f) wide («y_stride» .0) high (start .0)) ⌝ }
+fn count_slice(voxels: &[u16], strides: [Stride; 6], counts: &mut [u64], at: VoxelIndex, rows: Rows)
+    requires { ⌜ RowsCountable (now voxels) strides (now counts) (at .0) rows ⌝ }
+    ensures { λ _. ⌜ RowsCounted (now (voxels .entry)) strides (now (counts .entry)) (now (counts .exit)) (at .0) rows ⌝ }
 {
-    let step = y_stride.0;
+    let wide = rows.wide;
+    let high = rows.high;
+    let step = rows.stride.0;
     if wide == 0 {
         return;
     }
@@ -199,52 +164,31 @@ fn count_slice(
     let long = (high - 1) * step + wide;
     if step == wide + 2 {
         if long <= LONGEST {
-            count_flat(
-                voxels,
-                kernel_strides,
-                counts,
-                start,
-                wide,
-                y_stride,
-                high,
-                long,
-            );
+            count_flat(voxels, strides, counts, at, rows, long);
             return;
         }
     }
-    count_rows(voxels, kernel_strides, counts, start, wide, y_stride, high);
+    count_rows(voxels, strides, counts, at, rows);
 }
 
 // Counts the faces that all slices show.
 pub(crate) fn count_slices(
     voxels: &[u16],
-    kernel_strides: [Stride; 6],
+    strides: [Stride; 6],
     counts: &mut [u64],
-    start: VoxelIndex,
-    wide: u32,
-    y_stride: Stride,
-    high: u32,
-    z_stride: Stride,
-    deep: u32,
+    at: VoxelIndex,
+    slices: Slices,
 )
-    requires { ⌜ EachFace (λ f. SlicesReady (length (now voxels)) (offsetOf «kernel_strides» f) (start .0) wide («y_stride» .0) high («z_stride» .0) deep) ⌝ }
-    requires { ⌜ SlicesSound (now voxels) (start .0) wide («y_stride» .0) high («z_stride» .0) deep ⌝ }
-    requires { ⌜ Room (now counts) (deep * «z_stride» .0) ⌝ }
-    ensures { λ _. ⌜ Counted (now (counts .entry)) (now (counts .exit)) (λ f. slicesShown (now (voxels .entry)) (offsetOf «kernel_strides» f) wide («y_stride» .0) high («z_stride» .0) deep (start .0)) ⌝ }
+    requires { ⌜ SlicesCountable (now voxels) strides (now counts) (at .0) slices ⌝ }
+    ensures { λ _. ⌜ SlicesCounted (now (voxels .entry)) strides (now (counts .entry)) (now (counts .exit)) (at .0) slices ⌝ }
 {
-    let step = z_stride.0;
+    let rows = slices.rows;
+    let deep = slices.deep;
+    let step = slices.stride.0;
     let mut k: u32 = 0;
-    let mut i = start.0;
+    let mut i = at.0;
     while k < deep {
-        count_slice(
-            voxels,
-            kernel_strides,
-            counts,
-            VoxelIndex(i),
-            wide,
-            y_stride,
-            high,
-        );
+        count_slice(voxels, strides, counts, VoxelIndex(i), rows);
         k += 1;
         i += step;
     }

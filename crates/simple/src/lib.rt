@@ -4,37 +4,27 @@
 // in one lent output, so a pass before it counts the quads of each face; after that it is known where
 // each group begins, and the Rust's pass writes to six places of the output.
 ghost use mathlib.Core.Path.{_≡_};
-ghost use Prim.Native.Nat.{_<_};
 ghost use lib.ListN.{length};
-ghost use Rattle.geometry.specs.Refusal as refusal;
+ghost use Rattle.geometry.specs.Refusal.{accepted};
 ghost use Rattle.voxels.specs.Shape.{field};
-ghost use Rattle.voxels.specs.Listing as listing;
-ghost use Rattle.voxels.specs.Inner.{Entered, SoundAround, output, MadeGroups};
-ghost use Rattle.simple.specs.Unit.{unitNumbers, numbersOf, unitGroups, unitAnswer, outcome, visibleBlockFaces};
-ghost use Rattle.simple.specs.Inner.{Room, kernelStride, KernelOf, Starts, laidOutcome};
+ghost use Rattle.listing.specs.Outcome.{outcome};
+ghost use Rattle.simple.specs.Unit.{unitFrom, visibleBlockFaces};
+ghost use Rattle.simple.specs.Ready.{Room};
+ghost use Rattle.simple.specs.Kernel.{Meshable, kernelStride, KernelOf, Starts, GroupsMade};
 
 mod count;
 mod list;
+mod rows;
 
-use geometry::axis::Axis;
+use crate::rows::Slices;
 use geometry::face::OrientedBlockFace;
 use geometry::vector::UVec3;
+use listing::MeshAnswer;
 use voxels::bounds;
 use voxels::bounds::EntryAnswer;
 use voxels::extent::Extent;
 use voxels::index::Stride;
 use voxels::index::VoxelIndex;
-use voxels::refusal;
-
-// What unit meshing answers.
-pub struct UnitAnswer {
-    // The refusal number, or 0 where the call was accepted.
-    pub refusal: u32,
-    // The refusal's place, or 0.
-    pub place: u64,
-    // How many quads each of the six groups has. All are 0 where the call was refused.
-    pub counts: [u64; 6],
-}
 
 // What leads from a voxel to the one that shares a face.
 fn kernel_stride(voxels_shape: UVec3, face: OrientedBlockFace) -> Stride
@@ -87,71 +77,26 @@ struct Meshed {
 fn mesh_faces(
     voxels: &[u16],
     out: &mut [u32],
-    capacity: usize,
     voxels_shape: UVec3,
     interior: Extent,
     faces: [OrientedBlockFace; 6],
 ) -> Meshed
-    requires { ⌜ capacity ≡ listing.capacity unitNumbers (length (now out)) ⌝ }
-    requires { ⌜ Entered (length (now voxels)) «voxels_shape» interior ⌝ }
-    requires { ⌜ SoundAround (now voxels) «voxels_shape» interior ⌝ }
-    ensures { λ r. ⌜ MadeGroups unitNumbers numbersOf (unitGroups interior (field «voxels_shape» (now (voxels .entry))) faces) (now (out .entry)) (now (out .exit)) (r .listed) (r .counts) ⌝ }
+    requires { ⌜ Meshable (now voxels) «voxels_shape» interior ⌝ }
+    ensures { λ r. ⌜ GroupsMade (now (voxels .entry)) «voxels_shape» interior faces (now (out .entry)) (now (out .exit)) r ⌝ }
 {
     let strides = kernel_strides(voxels_shape, faces);
-    let y_stride = Stride::new(voxels_shape, Axis::Y);
-    let z_stride = Stride::new(voxels_shape, Axis::Z);
     let minimum = interior.minimum;
-    let bound = interior.bound;
-    let start = VoxelIndex::linearize(voxels_shape, minimum);
-    let wide = bound.x - minimum.x;
-    let high = bound.y - minimum.y;
-    let deep = bound.z - minimum.z;
+    let at = VoxelIndex::linearize(voxels_shape, minimum);
+    let slices = Slices::new(voxels_shape, interior);
     let mut counts = [0u64; 6];
-    count::count_slices(
-        voxels,
-        strides,
-        &mut counts,
-        start,
-        wide,
-        y_stride,
-        high,
-        z_stride,
-        deep,
-    );
+    count::count_slices(voxels, strides, &mut counts, at, slices);
     let mut cursors = [0usize; 6];
     let listed = run_starts(&mut cursors, &counts);
     if listed == 0 {
         return Meshed { listed, counts };
     }
-    list::list_slices(
-        voxels,
-        out,
-        capacity,
-        strides,
-        &mut cursors,
-        start,
-        minimum.x,
-        wide,
-        minimum.y,
-        y_stride,
-        high,
-        minimum.z,
-        z_stride,
-        deep,
-    );
+    list::list_slices(voxels, out, strides, &mut cursors, slices, at, minimum);
     Meshed { listed, counts }
-}
-
-// A refused call's answer.
-fn refused(number: u32, place: u64) -> UnitAnswer
-    ensures { λ r. ⌜ r ≡ unitAnswer (refusal.refused number place) ⌝ }
-{
-    let counts = [0u64; 6];
-    UnitAnswer {
-        refusal: number,
-        place,
-        counts,
-    }
 }
 
 // The answer of an accepted call, and what it lists.
@@ -161,23 +106,14 @@ fn mesh(
     interior: Extent,
     faces: [OrientedBlockFace; 6],
     out: &mut [u32],
-) -> UnitAnswer
-    requires { ⌜ Entered (length (now voxels)) «voxels_shape» interior ⌝ }
-    requires { ⌜ SoundAround (now voxels) «voxels_shape» interior ⌝ }
-    ensures { λ r. ⌜ outcome r (now (out .exit)) ≡ laidOutcome (listing.lay unitNumbers numbersOf (unitGroups interior (field «voxels_shape» (now (voxels .entry))) faces) (now (out .entry))) ⌝ }
+) -> MeshAnswer
+    requires { ⌜ Meshable (now voxels) «voxels_shape» interior ⌝ }
+    ensures { λ r. ⌜ outcome r (now (out .exit)) ≡ unitFrom (accepted tt) interior (field «voxels_shape» (now (voxels .entry))) faces (now (out .entry)) ⌝ }
 {
     let capacity = out.len() / 3;
-    let meshed = mesh_faces(voxels, out, capacity, voxels_shape, interior, faces);
-    let listed = meshed.listed;
-    if capacity < listed {
-        return refused(refusal::MANY_QUADS, capacity as u64);
-    }
+    let meshed = mesh_faces(voxels, out, voxels_shape, interior, faces);
     let counts = meshed.counts;
-    UnitAnswer {
-        refusal: 0,
-        place: 0,
-        counts,
-    }
+    listing::answered(meshed.listed, capacity, counts)
 }
 
 // A unit quad for every visible face of a voxel in the interior of the box from `min` to `max`: six
@@ -189,11 +125,11 @@ pub fn visible_block_faces(
     max: UVec3,
     faces: [OrientedBlockFace; 6],
     out: &mut [u32],
-) -> UnitAnswer
+) -> MeshAnswer
     ensures { λ r. ⌜ outcome r (now (out .exit)) ≡ visibleBlockFaces (now (voxels .entry)) «voxels_shape» min max faces (now (out .entry)) ⌝ }
 {
     match bounds::enter_unit(voxels, voxels_shape, min, max, faces) {
-        EntryAnswer::Refused(number, place) => refused(number, place),
+        EntryAnswer::Refused(number, place) => listing::refused(number, place),
         EntryAnswer::Entered(entry) => {
             let interior = entry.interior;
             mesh(voxels, voxels_shape, interior, faces, out)

@@ -1,33 +1,25 @@
 // Lists the quads: each visible face's quad goes to its face's run of the output, in one pass over the
 // voxels, after the loop of simple.rs. Where each run begins is known from counting.
 ghost use mathlib.Core.Path.{_≡_};
-ghost use Prim.Native.Nat.{_+_, _*_, _<_, _≤_};
-ghost use lib.ListN.{length, getD};
-ghost use Rattle.geometry.specs.Point.{at};
-ghost use Rattle.voxels.specs.Voxel as rule;
-ghost use Rattle.voxels.specs.Visible.{offsetIndex};
-ghost use Rattle.voxels.specs.Listing as listing;
-ghost use Rattle.voxels.specs.Inner.{mostVoxels, output, pushed};
+ghost use Prim.Native.Nat.{_<_};
+ghost use Rattle.listing.specs.Pushed.{output, pushed};
 ghost use Rattle.simple.specs.Unit.{unitNumbers, numbersOf};
-ghost use Rattle.simple.specs.Inner.{offsetOf, mostListed, voxelQuad, rowQuads, sliceQuads, slicesQuads, RowReady, SliceReady, SlicesReady, EachFace, Room, Sound, SliceSound, SlicesSound, Apart, Listed};
+ghost use Rattle.simple.specs.Ready.{mostListed, VoxelCountable};
+ghost use Rattle.simple.specs.List.{VoxelListed, RowListable, RowListed, RowsListable, RowsListed, SlicesListable, SlicesListed};
+use crate::rows::Rows;
+use crate::rows::Slices;
+use geometry::vector::UVec3;
 use voxels::index::Stride;
 use voxels::index::VoxelIndex;
 use voxels::voxel;
 
-// Lists a unit quad: it is written where there is room.
-fn push(out: &mut [u32], capacity: usize, listed: usize, x: u32, y: u32, z: u32) -> usize
-    requires { ⌜ (capacity ≡ listing.capacity unitNumbers (length (now out))) × (listed < mostListed) ⌝ }
-    ensures { λ r. ⌜ output (now (out .exit)) r ≡ pushed unitNumbers numbersOf (output (now (out .entry)) listed) (at x y z) ⌝ }
+// Lists a unit quad: its minimum's three numbers.
+fn push(out: &mut [u32], listed: usize, minimum: UVec3) -> usize
+    requires { ⌜ listed < mostListed ⌝ }
+    ensures { λ r. ⌜ output (now (out .exit)) r ≡ pushed unitNumbers numbersOf (output (now (out .entry)) listed) minimum ⌝ }
 {
-    if listed < capacity {
-        let at = listed * 3;
-        out[at] = x;
-        let next = at + 1;
-        out[next] = y;
-        let last = next + 1;
-        out[last] = z;
-        return listed + 1;
-    }
+    let item = [minimum.x, minimum.y, minimum.z];
+    listing::push(out, listed, &item);
     listed + 1
 }
 
@@ -35,19 +27,13 @@ fn push(out: &mut [u32], capacity: usize, listed: usize, x: u32, y: u32, z: u32)
 fn list_voxel(
     voxels: &[u16],
     out: &mut [u32],
-    capacity: usize,
-    kernel_strides: [Stride; 6],
+    strides: [Stride; 6],
     cursors: &mut [usize],
     index: VoxelIndex,
-    x: u32,
-    y: u32,
-    z: u32,
+    minimum: UVec3,
 )
-    requires { ⌜ capacity ≡ listing.capacity unitNumbers (length (now out)) ⌝ }
-    requires { ⌜ (index .0 < length (now voxels)) × (rule.class (getD (now voxels) (index .0) 0) ≤ 2) ⌝ }
-    requires { ⌜ EachFace (λ f. offsetIndex (index .0) (offsetOf «kernel_strides» f) < length (now voxels)) ⌝ }
-    requires { ⌜ Room (now cursors) 1 ⌝ }
-    ensures { λ _. ⌜ Listed (now (out .entry)) (now (cursors .entry)) (λ f. voxelQuad (now (voxels .entry)) (offsetOf «kernel_strides» f) y z x (index .0)) (now (out .exit)) (now (cursors .exit)) ⌝ }
+    requires { ⌜ VoxelCountable (now voxels) strides (now cursors) (index .0) ⌝ }
+    ensures { λ _. ⌜ VoxelListed (now (voxels .entry)) strides (index .0) minimum (now (out .entry)) (now (cursors .entry)) (now (out .exit)) (now (cursors .exit)) ⌝ }
 {
     let i = index.0 as usize;
     let sight = voxel::sight(voxels[i]);
@@ -56,11 +42,11 @@ fn list_voxel(
     }
     let mut f: usize = 0;
     while f < 6 {
-        let stride = kernel_strides[f];
+        let stride = strides[f];
         let neighbor = index.offset(stride);
         let j = neighbor.0 as usize;
         if voxels[j] < sight {
-            cursors[f] = push(out, capacity, cursors[f], x, y, z);
+            cursors[f] = push(out, cursors[f], minimum);
         }
         f += 1;
     }
@@ -70,36 +56,25 @@ fn list_voxel(
 fn list_row(
     voxels: &[u16],
     out: &mut [u32],
-    capacity: usize,
-    kernel_strides: [Stride; 6],
+    strides: [Stride; 6],
     cursors: &mut [usize],
-    start: VoxelIndex,
-    x: u32,
-    y: u32,
-    z: u32,
     wide: u32,
+    at: VoxelIndex,
+    minimum: UVec3,
 )
-    requires { ⌜ capacity ≡ listing.capacity unitNumbers (length (now out)) ⌝ }
-    requires { ⌜ EachFace (λ f. RowReady (length (now voxels)) (offsetOf «kernel_strides» f) (start .0) wide) ⌝ }
-    requires { ⌜ Sound (now voxels) (start .0) wide ⌝ }
-    requires { ⌜ (Room (now cursors) wide) × (x + wide ≤ mostVoxels) × (start .0 + wide ≤ 2 * mostVoxels) ⌝ }
-    requires { ⌜ Apart (now cursors) (λ f. rowQuads (now voxels) (offsetOf «kernel_strides» f) x wide z y (start .0)) ⌝ }
-    ensures { λ _. ⌜ Listed (now (out .entry)) (now (cursors .entry)) (λ f. rowQuads (now (voxels .entry)) (offsetOf «kernel_strides» f) x wide z y (start .0)) (now (out .exit)) (now (cursors .exit)) ⌝ }
+    requires { ⌜ RowListable (now voxels) strides (now cursors) wide (at .0) minimum ⌝ }
+    ensures { λ _. ⌜ RowListed (now (voxels .entry)) strides wide (at .0) minimum (now (out .entry)) (now (cursors .entry)) (now (out .exit)) (now (cursors .exit)) ⌝ }
 {
     let mut k: u32 = 0;
-    let mut i = start.0;
+    let mut i = at.0;
     while k < wide {
-        list_voxel(
-            voxels,
-            out,
-            capacity,
-            kernel_strides,
-            cursors,
-            VoxelIndex(i),
-            x + k,
-            y,
-            z,
-        );
+        let x = minimum.x + k;
+        let here = UVec3 {
+            x,
+            y: minimum.y,
+            z: minimum.z,
+        };
+        list_voxel(voxels, out, strides, cursors, VoxelIndex(i), here);
         k += 1;
         i += 1;
     }
@@ -109,40 +84,28 @@ fn list_row(
 fn list_slice(
     voxels: &[u16],
     out: &mut [u32],
-    capacity: usize,
-    kernel_strides: [Stride; 6],
+    strides: [Stride; 6],
     cursors: &mut [usize],
-    start: VoxelIndex,
-    x: u32,
-    wide: u32,
-    y: u32,
-    y_stride: Stride,
-    high: u32,
-    z: u32,
+    rows: Rows,
+    at: VoxelIndex,
+    minimum: UVec3,
 )
-    requires { ⌜ capacity ≡ listing.capacity unitNumbers (length (now out)) ⌝ }
-    requires { ⌜ EachFace (λ f. SliceReady (length (now voxels)) (offsetOf «kernel_strides» f) (start .0) wide («y_stride» .0) high) ⌝ }
-    requires { ⌜ SliceSound (now voxels) (start .0) wide («y_stride» .0) high ⌝ }
-    requires { ⌜ (Room (now cursors) (high * «y_stride» .0)) × (x + wide ≤ mostVoxels) × (y + high ≤ mostVoxels) ⌝ }
-    requires { ⌜ Apart (now cursors) (λ f. sliceQuads (now voxels) (offsetOf «kernel_strides» f) x wide y («y_stride» .0) high z (start .0)) ⌝ }
-    ensures { λ _. ⌜ Listed (now (out .entry)) (now (cursors .entry)) (λ f. sliceQuads (now (voxels .entry)) (offsetOf «kernel_strides» f) x wide y («y_stride» .0) high z (start .0)) (now (out .exit)) (now (cursors .exit)) ⌝ }
+    requires { ⌜ RowsListable (now voxels) strides (now cursors) rows (at .0) minimum ⌝ }
+    ensures { λ _. ⌜ RowsListed (now (voxels .entry)) strides rows (at .0) minimum (now (out .entry)) (now (cursors .entry)) (now (out .exit)) (now (cursors .exit)) ⌝ }
 {
-    let step = y_stride.0;
+    let wide = rows.wide;
+    let high = rows.high;
+    let step = rows.stride.0;
     let mut k: u32 = 0;
-    let mut i = start.0;
+    let mut i = at.0;
     while k < high {
-        list_row(
-            voxels,
-            out,
-            capacity,
-            kernel_strides,
-            cursors,
-            VoxelIndex(i),
-            x,
-            y + k,
-            z,
-            wide,
-        );
+        let y = minimum.y + k;
+        let here = UVec3 {
+            x: minimum.x,
+            y,
+            z: minimum.z,
+        };
+        list_row(voxels, out, strides, cursors, wide, VoxelIndex(i), here);
         k += 1;
         i += step;
     }
@@ -152,44 +115,28 @@ fn list_slice(
 pub(crate) fn list_slices(
     voxels: &[u16],
     out: &mut [u32],
-    capacity: usize,
-    kernel_strides: [Stride; 6],
+    strides: [Stride; 6],
     cursors: &mut [usize],
-    start: VoxelIndex,
-    x: u32,
-    wide: u32,
-    y: u32,
-    y_stride: Stride,
-    high: u32,
-    z: u32,
-    z_stride: Stride,
-    deep: u32,
+    slices: Slices,
+    at: VoxelIndex,
+    minimum: UVec3,
 )
-    requires { ⌜ capacity ≡ listing.capacity unitNumbers (length (now out)) ⌝ }
-    requires { ⌜ EachFace (λ f. SlicesReady (length (now voxels)) (offsetOf «kernel_strides» f) (start .0) wide («y_stride» .0) high («z_stride» .0) deep) ⌝ }
-    requires { ⌜ SlicesSound (now voxels) (start .0) wide («y_stride» .0) high («z_stride» .0) deep ⌝ }
-    requires { ⌜ (Room (now cursors) (deep * «z_stride» .0)) × (x + wide ≤ mostVoxels) × (y + high ≤ mostVoxels) × (z + deep ≤ mostVoxels) ⌝ }
-    requires { ⌜ Apart (now cursors) (λ f. slicesQuads (now voxels) (offsetOf «kernel_strides» f) x wide y («y_stride» .0) high z («z_stride» .0) deep (start .0)) ⌝ }
-    ensures { λ _. ⌜ Listed (now (out .entry)) (now (cursors .entry)) (λ f. slicesQuads (now (voxels .entry)) (offsetOf «kernel_strides» f) x wide y («y_stride» .0) high z («z_stride» .0) deep (start .0)) (now (out .exit)) (now (cursors .exit)) ⌝ }
+    requires { ⌜ SlicesListable (now voxels) strides (now cursors) slices (at .0) minimum ⌝ }
+    ensures { λ _. ⌜ SlicesListed (now (voxels .entry)) strides slices (at .0) minimum (now (out .entry)) (now (cursors .entry)) (now (out .exit)) (now (cursors .exit)) ⌝ }
 {
-    let step = z_stride.0;
+    let rows = slices.rows;
+    let deep = slices.deep;
+    let step = slices.stride.0;
     let mut slice: u32 = 0;
-    let mut i = start.0;
+    let mut i = at.0;
     while slice < deep {
-        list_slice(
-            voxels,
-            out,
-            capacity,
-            kernel_strides,
-            cursors,
-            VoxelIndex(i),
-            x,
-            wide,
-            y,
-            y_stride,
-            high,
-            z + slice,
-        );
+        let z = minimum.z + slice;
+        let here = UVec3 {
+            x: minimum.x,
+            y: minimum.y,
+            z,
+        };
+        list_slice(voxels, out, strides, cursors, rows, VoxelIndex(i), here);
         slice += 1;
         i += step;
     }

@@ -1,5 +1,5 @@
 -- Laws of numbers that stand for a case, and of the face of a sign and a number.
-use mathlib.Core.List.{List, [], _∷_}
+use mathlib.Core.List.{List, []}
 use mathlib.Core.Path.{_≡_, sym, _∙_, ap}
 use Prim.Native.Nat.{ℕ, _≤_}
 use lib.IntN.{ℤ}

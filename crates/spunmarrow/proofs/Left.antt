@@ -6,8 +6,9 @@ use lib.IntN.{ℤ}
 use Rattle.geometry.specs.declared.face.OrientedBlockFace.{OrientedBlockFace}
 use Rattle.geometry.specs.Point.{Point}
 use Rattle.geometry.specs.Refusal.{Answer, accepted, refused, checked}
-use Rattle.simple.specs.declared.UnitAnswer.{UnitAnswer}
-use Rattle.simple.specs.Unit.{outcome, visibleBlockFaces}
+use Rattle.listing.specs.declared.MeshAnswer.{MeshAnswer}
+use Rattle.listing.specs.Outcome.{outcome}
+use Rattle.simple.specs.Unit.{visibleBlockFaces}
 use Rattle.greedy.specs.declared.GreedyAnswer.{GreedyAnswer}
 use Rattle.greedy.specs.Greedy as greedy
 use Rattle.greedy.specs.Greedy.{greedyQuads}
@@ -23,9 +24,9 @@ module _ (shape min max : List ℕ) (faces : List ℤ) (voxels out : List ℕ) {
   unit-refused e is = rw (is, sym read ∙ e)
 
   -- Otherwise it leaves what unit meshing leaves.
-  pub unit-made : {s least most : Point} {six : List OrientedBlockFace} {r : UnitAnswer} {made : List ℕ} → x ≡ accepted tt
+  pub unit-made : {s least most : Point} {six : List OrientedBlockFace} {r : MeshAnswer} {made : List ℕ} → x ≡ accepted tt
       → s ≡ pointOf shape → least ≡ pointOf min → most ≡ pointOf max → six ≡ facesOf faces
-      → outcome r made ≡ visibleBlockFaces voxels s least most six out → answer ≡ nine (r .refusal) (r .place) (r .counts) 0
+      → outcome r made ≡ visibleBlockFaces voxels s least most six out → answer ≡ nine r 0
       → unitLeft answer made ≡ unitCall shape min max faces voxels out
   unfolding unitCall
   unit-made e s least most six meshed is = rw (is, sym read ∙ e, ← s, ← least, ← most, ← six, ← meshed)
@@ -40,7 +41,7 @@ module _ (shape min max : List ℕ) (faces : List ℤ) (voxels visited out : Lis
   -- Otherwise it leaves what greedy meshing leaves.
   pub greedy-made : {s least most : Point} {six : List OrientedBlockFace} {r : GreedyAnswer} {marks made : List ℕ} → x ≡ accepted tt
       → s ≡ pointOf shape → least ≡ pointOf min → most ≡ pointOf max → six ≡ facesOf faces
-      → greedy.outcome r marks made ≡ greedyQuads voxels s least most six visited out → answer ≡ nine (r .refusal) (r .place) (r .counts) (r .tests)
+      → greedy.outcome r marks made ≡ greedyQuads voxels s least most six visited out → answer ≡ nine (r .mesh) (r .tests)
       → greedyLeft answer marks made ≡ greedyCall shape min max faces voxels visited out
   unfolding greedyCall
   greedy-made e s least most six meshed is = rw (is, sym read ∙ e, ← s, ← least, ← most, ← six, ← meshed)

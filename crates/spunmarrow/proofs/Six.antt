@@ -17,10 +17,9 @@ use Rattle.geometry.specs.declared.axis.AxisPermutation.{AxisPermutation}
 use Rattle.geometry.specs.declared.axis.AxisPermutation.the-variants.{Xyz}
 use Rattle.geometry.specs.Axes.{permutations, noPermutation, permutationOf}
 use Rattle.geometry.specs.Refusal.{Answer, accepted, refused, answer, checked, atPlace0}
-use Rattle.geometry.proofs.Refusals.{split, applies, passes, accepts-value, accepts-checked}
-use Rattle.voxels.specs.Extent.{every}
-use Rattle.voxels.proofs.Orders.{answer-refused}
-use Rattle.voxels.proofs.Asked.{ask-on, ask-stops, place-passes, place-refuses}
+use Rattle.geometry.proofs.Refusals.{split, applies, passes, accepts-value, accepts-checked, answer-refused, place-passes, place-refuses}
+use Rattle.voxels.specs.Loop.{every}
+use Rattle.voxels.proofs.Asked.{ask-on, ask-stops}
 use Rattle.spunmarrow.specs.Numbers.{face}
 use Rattle.spunmarrow.specs.Faces.{noSigned, signedOr, signedPermutation, signAt, numberAt, badNumber, faceAt}
 

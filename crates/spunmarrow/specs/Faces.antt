@@ -8,10 +8,9 @@ use Rattle.geometry.specs.declared.axis.AxisPermutation.{AxisPermutation}
 use Rattle.geometry.specs.declared.axis.AxisPermutation.the-variants.{Xyz}
 use Rattle.geometry.specs.declared.face.OrientedBlockFace.{OrientedBlockFace}
 use Rattle.geometry.specs.Axes.{permutations, noPermutation}
-use Rattle.geometry.specs.Refusal.{Answer, Check, answer, atPlace0}
+use Rattle.geometry.specs.Refusal.{Answer, Check, answer, atPlace0, atPlace}
 use mathlib.Core.Bool.{true}
 use Rattle.voxels.specs.Extent.{upTo}
-use Rattle.voxels.specs.Checks.{atPlace}
 use Rattle.spunmarrow.specs.Numbers.{face}
 
 -- Refusal 17 of a signed number: no permutation has it. None has a number below 0.

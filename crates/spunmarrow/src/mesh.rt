@@ -3,27 +3,29 @@
 ghost use mathlib.Core.Path.{_≡_};
 ghost use Rattle.spunmarrow.specs.Mesh.{nine, nineRefused, unitLeft, unitCall, greedyLeft, greedyCall};
 use crate::numbers;
-use voxels::bounds::EntryCheck;
+use geometry::refusal::CheckAnswer;
+use listing::MeshAnswer;
 
 // Writes the nine numbers of an answer.
-fn write(answer: &mut [u64; 9], refusal: u32, place: u64, counts: [u64; 6], tests: u64)
-    ensures { λ _. ⌜ now (answer .exit) ≡ nine refusal place counts tests ⌝ }
+fn write(answer: &mut [u64; 9], mesh: MeshAnswer, tests: u64)
+    ensures { λ _. ⌜ now (answer .exit) ≡ nine mesh tests ⌝ }
 {
+    let counts = mesh.counts;
     let a = counts[0];
     let b = counts[1];
     let c = counts[2];
     let d = counts[3];
     let e = counts[4];
     let f = counts[5];
-    let number = refusal as u64;
-    *answer = [number, place, a, b, c, d, e, f, tests];
+    let number = mesh.refusal as u64;
+    *answer = [number, mesh.place, a, b, c, d, e, f, tests];
 }
 
 // Writes the answer of a refused call.
-fn refuse(answer: &mut [u64; 9], refusal: u32, place: u64)
-    ensures { λ _. ⌜ now (answer .exit) ≡ nineRefused refusal place ⌝ }
+fn refuse(answer: &mut [u64; 9], number: u32, place: u64)
+    ensures { λ _. ⌜ now (answer .exit) ≡ nineRefused number place ⌝ }
 {
-    write(answer, refusal, place, [0u64; 6], 0);
+    write(answer, listing::refused(number, place), 0);
 }
 
 // A unit quad for every visible face inside a box. Refuses by 17, then as `visible_block_faces` does.
@@ -40,10 +42,10 @@ pub extern "C" fn spunmarrow_visible_block_faces(
     ensures { λ _. ⌜ unitLeft (now (answer .exit)) (now (out .exit)) ≡ unitCall (now (shape .entry)) (now (min .entry)) (now (max .entry)) (now (faces .entry)) (now (voxels .entry)) (now (out .entry)) ⌝ }
 {
     match numbers::check_faces(faces) {
-        EntryCheck::Refused(number, place) => {
+        CheckAnswer::Refused(number, place) => {
             refuse(answer, number, place);
         }
-        EntryCheck::Passed => {
+        CheckAnswer::Passed => {
             let meshed = simple::visible_block_faces(
                 voxels,
                 numbers::point(shape),
@@ -52,8 +54,7 @@ pub extern "C" fn spunmarrow_visible_block_faces(
                 numbers::faces(faces),
                 out,
             );
-            let counts = meshed.counts;
-            write(answer, meshed.refusal, meshed.place, counts, 0);
+            write(answer, meshed, 0);
         }
     }
 }
@@ -74,10 +75,10 @@ pub extern "C" fn spunmarrow_greedy_quads(
     ensures { λ _. ⌜ greedyLeft (now (answer .exit)) (now (visited .exit)) (now (out .exit)) ≡ greedyCall (now (shape .entry)) (now (min .entry)) (now (max .entry)) (now (faces .entry)) (now (voxels .entry)) (now (visited .entry)) (now (out .entry)) ⌝ }
 {
     match numbers::check_faces(faces) {
-        EntryCheck::Refused(number, place) => {
+        CheckAnswer::Refused(number, place) => {
             refuse(answer, number, place);
         }
-        EntryCheck::Passed => {
+        CheckAnswer::Passed => {
             let meshed = greedy::greedy_quads(
                 voxels,
                 numbers::point(shape),
@@ -87,8 +88,8 @@ pub extern "C" fn spunmarrow_greedy_quads(
                 visited,
                 out,
             );
-            let counts = meshed.counts;
-            write(answer, meshed.refusal, meshed.place, counts, meshed.tests);
+            let mesh = meshed.mesh;
+            write(answer, mesh, meshed.tests);
         }
     }
 }

@@ -2,8 +2,7 @@
 ghost use mathlib.Core.Path.{_≡_};
 ghost use Prim.Native.Nat.{_<_};
 ghost use Rattle.geometry.specs.Refusal.{answer, checked};
-ghost use Rattle.geometry.specs.Answers.{permutationMeaning, faceMeaning};
-ghost use Rattle.voxels.specs.Answers.{entryCheckMeaning};
+ghost use Rattle.geometry.specs.Answers.{checkMeaning, permutationMeaning, faceMeaning};
 ghost use Rattle.spunmarrow.specs.Numbers.{pointOf, quadOf, faceOf, cornerOf, axisOf, cornerMeaning, axisMeaning};
 ghost use Rattle.spunmarrow.specs.Faces.{signedPermutation, faceAt, badNumbers, facesOf};
 use geometry::axis::Axis;
@@ -14,11 +13,8 @@ use geometry::face::FaceAnswer;
 use geometry::face::OrientedBlockFace;
 use geometry::quad::UnorientedQuad;
 use geometry::refusal;
+use geometry::refusal::CheckAnswer;
 use geometry::vector::UVec3;
-use voxels::bounds::EntryCheck;
-
-// 17: a permutation's, corner's or axis' number is outside its range.
-const NO_SUCH_NUMBER: u32 = refusal::PERMUTATION_NUMBER;
 
 // One of a quad's four corners, or the refusal number.
 pub enum CornerAnswer {
@@ -81,7 +77,7 @@ pub(crate) fn corner(number: u32) -> CornerAnswer
         1 => CornerAnswer::Corner(Corner::MaxuMinv),
         2 => CornerAnswer::Corner(Corner::MinuMaxv),
         3 => CornerAnswer::Corner(Corner::MaxuMaxv),
-        _ => CornerAnswer::Refused(NO_SUCH_NUMBER),
+        _ => CornerAnswer::Refused(refusal::NO_SUCH_NUMBER),
     }
 }
 
@@ -93,7 +89,7 @@ pub(crate) fn axis(number: u32) -> AxisAnswer
         0 => AxisAnswer::Axis(Axis::X),
         1 => AxisAnswer::Axis(Axis::Y),
         2 => AxisAnswer::Axis(Axis::Z),
-        _ => AxisAnswer::Refused(NO_SUCH_NUMBER),
+        _ => AxisAnswer::Refused(refusal::NO_SUCH_NUMBER),
     }
 }
 
@@ -102,27 +98,27 @@ fn permutation(number: i32) -> PermutationAnswer
     ensures { λ r. ⌜ permutationMeaning r ≡ signedPermutation number ⌝ }
 {
     if number < 0 {
-        return PermutationAnswer::Refused(NO_SUCH_NUMBER);
+        return PermutationAnswer::Refused(refusal::NO_SUCH_NUMBER);
     }
     AxisPermutation::from_number(number as u32)
 }
 
 // The check of six faces: the first whose permutation's number is none is refused, with its place.
-pub(crate) fn check_faces(numbers: &[i32; 12]) -> EntryCheck
-    ensures { λ r. ⌜ entryCheckMeaning r ≡ checked (badNumbers (now (numbers .entry))) ⌝ }
+pub(crate) fn check_faces(numbers: &[i32; 12]) -> CheckAnswer
+    ensures { λ r. ⌜ checkMeaning r ≡ checked (badNumbers (now (numbers .entry))) ⌝ }
 {
     let mut k: usize = 0;
     while k < 6 {
         let at = k * 2 + 1;
         match permutation(numbers[at]) {
             PermutationAnswer::Refused(number) => {
-                return EntryCheck::Refused(number, k as u64);
+                return CheckAnswer::Refused(number, k as u64);
             }
             PermutationAnswer::Permutation(_) => {}
         }
         k += 1;
     }
-    EntryCheck::Passed
+    CheckAnswer::Passed
 }
 
 // One of the six faces. Where its permutation's number is none, which `check_faces` tells, any will

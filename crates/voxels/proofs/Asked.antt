@@ -1,34 +1,26 @@
 -- Checks asked one after another: what a loop over them has to show, in the form of its invariant. "What is left to ask decides as the whole does."
-use mathlib.Core.List.{List, [], _∷_}
+use mathlib.Core.List.{List, [], _∷_, _++_}
 use mathlib.Core.Path.{_≡_, refl, sym, _∙_, ap}
 use Prim.Native.Nat.{ℕ, zero, suc, _+_, _-_, _≤_, _<_}
-use native.Mathlib.Nat.{sub-zero, suc-add, not-suc-le-zero}
+use native.Mathlib.Nat.{suc-add, not-suc-le-zero}
 use native.Mathlib.Omega.{arith}
 use lib.ListN.{length, getD, drop, drop-of-length-le}
 use borrow.Author.Tests.{eq-eqb, ne-eqb}
 use Rattle.geometry.specs.declared.face.OrientedBlockFace.{OrientedBlockFace}
-use Rattle.geometry.specs.Refusal.{Answer, accepted, refused, Check, answer, checked, follow}
+use Rattle.geometry.specs.Refusal.{Answer, accepted, refused, Check, atPlace, answer, checked, follow}
 use Rattle.geometry.specs.Checks.{badSign}
-use Rattle.geometry.proofs.Refusals.{split, applies, passes, first-passes, passes-alone, in-turn}
+use Rattle.geometry.proofs.Refusals.{in-turn, place-passes, place-refuses}
 use Rattle.voxels.specs.Voxel.{class}
-use Rattle.voxels.specs.Extent.{every}
-use Rattle.voxels.specs.Checks.{atPlace, badFacesFrom}
-use Rattle.voxels.specs.Inner.{badAt}
-
--- With k of n done, one more is due,
-pub more : (k n : ℕ) → k < n → n - k ≡ suc (n - (k + 1))
-more k n h = omega arith
-
--- or none.
-pub done : (k n : ℕ) → n ≤ k → n - k ≡ zero
-done k n h = omega arith
+use Rattle.voxels.specs.Loop.{every, stepBy}
+use Rattle.voxels.specs.Checks.{badFacesFrom}
+use Rattle.voxels.specs.Rows.{badAt}
+use Rattle.voxels.proofs.Loops.{loop-start, loop-next, loop-none}
 
 -- A loop over checks that lie a stride apart.
 module _ (d : ℕ) (g : ℕ → List Check) (i k n : ℕ) {t : Answer (Unit {0})} (left : checked (every d i (n - k) g) ≡ t) where
   -- Those at hand decide, or the rest does.
   pub ask-next : k < n → follow (checked (g i)) (checked (every d (i + d) (n - (k + 1)) g)) ≡ t
-  unfolding every
-  ask-next h = sym (in-turn (g i) (every d (i + d) (n - (k + 1)) g) tt) ∙ rw (more k n h) at left
+  ask-next h = sym (in-turn (g i) (every d (i + d) (n - (k + 1)) g) tt) ∙ sym (ap checked (loop-next [] _++_ (stepBy d) g i k n h)) ∙ left
 
   -- Where they pass the loop goes on,
   pub ask-on : k < n → checked (g i) ≡ accepted tt → checked (every d (i + d) (n - (k + 1)) g) ≡ t
@@ -40,12 +32,12 @@ module _ (d : ℕ) (g : ℕ → List Check) (i k n : ℕ) {t : Answer (Unit {0})
 
   -- and at its end nothing is refused.
   pub ask-done : n ≤ k → accepted tt ≡ t
-  unfolding every answer
-  ask-done h = rw (done k n h) at left
+  unfolding answer
+  ask-done h = sym (ap checked (loop-none [] _++_ (stepBy d) g i k n h)) ∙ left
 
 -- The loop's start.
 pub ask-start : (d : ℕ) (g : ℕ → List Check) (i n : ℕ) → checked (every d i (n - 0) g) ≡ checked (every d i n g)
-ask-start d g i n = rw sub-zero
+ask-start d g i n = ap checked (loop-start [] _++_ (stepBy d) g i n)
 
 -- One voxel: it is bad,
 pub bad-here : (vs : List ℕ) (i : ℕ) {k : ℕ} → k ≡ class (getD vs i 0) → k ≡ 3 → checked (badAt vs i) ≡ refused 8 i
@@ -63,22 +55,6 @@ drop-next [] k d h = absurd (not-suc-le-zero h)
 drop-next (x ∷ l) zero d h = refl
 drop-next (x ∷ l) (suc k) d h = rw (suc-add k 1) (drop-next l k d (omega arith))
 
--- A refusal, at another place.
-abbrev number-of : ℕ → Answer (Unit {0}) → Answer (Unit {0})
-number-of k (accepted u) = accepted u
-number-of k (refused m p) = refused m k
-
--- A check passes wherever it is asked, and refuses with the place that it has there.
-module _ (c : Check) (k : ℕ) (cs : List Check) where
-  pub place-passes : checked (c ∷ []) ≡ accepted tt → checked (atPlace k c ∷ cs) ≡ checked cs
-  place-passes e = passes (atPlace k c) cs tt (first-passes c [] tt e)
-
-  pub place-refuses : {m p : ℕ} → checked (c ∷ []) ≡ refused m p → checked (atPlace k c ∷ cs) ≡ refused m k
-  place-refuses e =
-      split (c .applies)
-      (λ t. applies (atPlace k c) cs tt t ∙ ap (number-of k) (sym (applies c [] tt t) ∙ e))
-      (λ f. cc (passes-alone c f))
-
 -- A loop over faces, one after another.
 module _ (faces : List OrientedBlockFace) (k : ℕ) (d : OrientedBlockFace) {t : Answer (Unit {0})} (left : checked (badFacesFrom k (drop k faces)) ≡ t) where
   face-next : k < length faces → checked (atPlace k (badSign (getD faces k d)) ∷ badFacesFrom (k + 1) (drop (k + 1) faces)) ≡ t
@@ -88,7 +64,7 @@ module _ (faces : List OrientedBlockFace) (k : ℕ) (d : OrientedBlockFace) {t :
   pub face-on : k < length faces → checked (badSign (getD faces k d) ∷ []) ≡ accepted tt → checked (badFacesFrom (k + 1) (drop (k + 1) faces)) ≡ t
   face-on h e = sym (place-passes (badSign (getD faces k d)) k _ e) ∙ face-next h
 
-  pub face-stops : {m : ℕ} → k < length faces → checked (badSign (getD faces k d) ∷ []) ≡ refused m 0 → refused m k ≡ t
+  pub face-stops : {m p : ℕ} → k < length faces → checked (badSign (getD faces k d) ∷ []) ≡ refused m p → refused m k ≡ t
   face-stops h e = sym (place-refuses (badSign (getD faces k d)) k _ e) ∙ face-next h
 
 pub face-done : (faces : List OrientedBlockFace) (k : ℕ) {t : Answer (Unit {0})} → checked (badFacesFrom k (drop k faces)) ≡ t → length faces ≤ k → accepted tt ≡ t

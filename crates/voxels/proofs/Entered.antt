@@ -15,7 +15,7 @@ use Rattle.voxels.specs.Shape.{size, index, stride, InShape}
 use Rattle.voxels.specs.Extent.{Inside, interior}
 use Rattle.voxels.specs.Visible.{stepped, modulus, visibilityOffset, offsetIndex}
 use Rattle.voxels.specs.Answers.{entry}
-use Rattle.voxels.specs.Inner.{mostVoxels, Entered}
+use Rattle.voxels.specs.Entered.{mostVoxels, Entered}
 use Rattle.voxels.proofs.Places.{index-below}
 use Rattle.voxels.proofs.Held.{max-small, stride-is, index-fits}
 use Rattle.voxels.proofs.Steps.{neighbour-in-box, box-in-shape, offset-leads}

@@ -5,11 +5,11 @@ use mathlib.Core.Path.{_≡_}
 use Prim.Native.Nat.{ℕ, _+_}
 use borrow.Author.Tests.{not-false}
 use Rattle.geometry.specs.declared.face.OrientedBlockFace.{OrientedBlockFace}
-use Rattle.geometry.specs.Refusal.{accepted, checked}
+use Rattle.geometry.specs.Refusal.{accepted, atPlace, checked}
 use Rattle.geometry.specs.Checks.{properSign, badSign}
+use Rattle.geometry.specs.Lists.{Each}
 use Rattle.geometry.proofs.Refusals.{first-passes, rest-accepts}
-use Rattle.voxels.specs.Extent.{Each}
-use Rattle.voxels.specs.Checks.{atPlace, badFacesFrom}
+use Rattle.voxels.specs.Checks.{badFacesFrom}
 
 -- A face's sign is proper.
 abbrev pub Proper : OrientedBlockFace → Type 0

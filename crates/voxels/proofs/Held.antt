@@ -18,8 +18,9 @@ use Rattle.voxels.specs.Shape.{size, index, stride, InShape}
 use Rattle.voxels.specs.Extent.{box, scan}
 use Rattle.voxels.specs.Visible.{modulus}
 use Rattle.voxels.specs.Checks.{onEachAxis, badAxis, badShape, fewVoxels, minAboveMax, maxPastShape, minIsMax, badVoxelAt, badVoxels, boundsChecks}
-use Rattle.voxels.specs.Inner.{mostVoxels, Held, RowsLent, SlicesLent, badAt, slices}
-use Rattle.voxels.proofs.Orders.{both-pass}
+use Rattle.voxels.specs.Entered.{mostVoxels, Held}
+use Rattle.voxels.specs.Rows.{RowsLent, SlicesLent, badAt, slices}
+use Rattle.geometry.proofs.Orders.{both-pass}
 use Rattle.voxels.proofs.Scan.{map-gathered, flat-scan}
 use Rattle.voxels.proofs.Places.{index-at, index-below}
 

@@ -3,10 +3,10 @@
 pub mod Numbers
 -- Of voxels that show their faces.
 pub mod Voxels
+-- Of loops.
+pub mod Loops
 -- Of places in a shape: index and stride.
 pub mod Places
--- Of orders of refusals, asked part by part.
-pub mod Orders
 -- Of checks asked by a loop.
 pub mod Asked
 -- Of scan order, and loops over it.
@@ -23,11 +23,11 @@ pub mod Steps
 pub mod Entered
 -- What refusal 8 tells its reader.
 pub mod Lowest
--- Of items written into a buffer.
-pub mod Pushed
--- Of groups listed one after another.
-pub mod Groups
 -- Of how many times a point stands in a list.
 pub mod Times
 -- That each public contract leaves one outcome.
 pub mod Unique
+-- What an entry has passed, part by part.
+pub mod Passed
+-- The numbers that an entry may give.
+pub mod Numbered

@@ -1,7 +1,7 @@
 -- A check of each voxel of the box as its reader has it: its place is the lowest index of a voxel that it applies to, and where nothing is refused it applies to none. Refusal 8 is such a check.
-use mathlib.Core.Bool.{Bool, true, false, false≢true}
+use mathlib.Core.Bool.{true, false, false≢true}
 use mathlib.Core.List.{List, [], _∷_, _++_, map}
-use mathlib.Core.Path.{_≡_, refl, sym, _∙_, ap}
+use mathlib.Core.Path.{_≡_, refl, sym, _∙_}
 use Prim.Native.Nat.{ℕ, zero, suc, _+_, _-_, _*_, _≤_, _<_}
 use native.Mathlib.Nat.{suc-mul, mul-one, mul-comm, mul-le-mul-right}
 use native.Mathlib.Omega.{arith}
@@ -9,44 +9,22 @@ use lib.ListN.{getD}
 use borrow.Author.Tests.{eqb-false}
 use Rattle.geometry.specs.declared.axis.Axis.the-variants.{X, Y, Z}
 use Rattle.geometry.specs.Point.{Point, along}
-use Rattle.geometry.specs.Refusal.{Answer, accepted, refused, Check, answer, checked}
-use Rattle.geometry.proofs.Refusals.{split, applies, passes, first-passes, rest-accepts}
+use Rattle.geometry.specs.Refusal.{accepted, refused, Check, answer, checked}
+use Rattle.geometry.specs.Lists.{Each}
+use Rattle.geometry.proofs.Refusals.{split, refused-number, refused-place, not-both, applies, passes, first-passes, rest-accepts}
+use Rattle.geometry.proofs.Lists.{each-up}
 use Rattle.voxels.specs.Voxel.{class}
 use Rattle.voxels.specs.Shape.{index, stride, field}
-use Rattle.voxels.specs.Extent.{box, interior, scan, every, Inside, Each}
+use Rattle.voxels.specs.Extent.{box, interior, scan, Inside}
+use Rattle.voxels.specs.Loop.{looped, every}
 use Rattle.voxels.specs.Checks.{badVoxelAt, badVoxels}
 use Rattle.voxels.specs.Statements.{LowestBad, NoneBad}
-use Rattle.voxels.specs.Inner.{Held, SoundAround, row, rows, slices}
-use Rattle.voxels.proofs.Scan.{each-up, scan-inside, inside-scan}
+use Rattle.voxels.specs.Entered.{Held, SoundAround}
+use Rattle.voxels.specs.Rows.{row, rows, slices}
+use Rattle.voxels.proofs.Scan.{scan-inside, inside-scan}
 use Rattle.voxels.proofs.Voxels.{class-small}
 use Rattle.voxels.proofs.Held.{each-flat}
 use Rattle.voxels.proofs.Steps.{along-next}
-
--- ---- refusals apart
-
-abbrev number-in : Answer (Unit {0}) → ℕ
-number-in (accepted u) = 0
-number-in (refused n p) = n
-
-abbrev place-in : Answer (Unit {0}) → ℕ
-place-in (accepted u) = 0
-place-in (refused n p) = p
-
--- Equal refusals have one number,
-pub refused-number : {n m p q : ℕ} → _≡_ {A = Answer (Unit {0})} (refused n p) (refused m q) → n ≡ m
-refused-number e = ap number-in e
-
--- and one place;
-refused-place : {n m p q : ℕ} → _≡_ {A = Answer (Unit {0})} (refused n p) (refused m q) → p ≡ q
-refused-place e = ap place-in e
-
-abbrev refuses : Answer (Unit {0}) → Bool
-refuses (accepted u) = false
-refuses (refused n p) = true
-
--- and what is accepted is not refused.
-pub not-both : {n p : ℕ} → _≡_ {A = Answer (Unit {0})} (accepted tt) (refused n p) → ⊥
-not-both e = false≢true (ap refuses e)
 
 -- ---- checks whose places ascend
 
@@ -66,7 +44,7 @@ ascend-wider lo hi hi′ (c ∷ cs) l h = (h .0, ascend-wider (c .place + 1) hi 
 
 -- A loop whose every list ascends within its stride ascends.
 ascend-every : (d : ℕ) (g : ℕ → List Check) → ((i : ℕ) → Ascend i (i + d) (g i)) → (n a : ℕ) → Ascend a (a + n * d) (every d a n g)
-unfolding every
+unfolding looped
 ascend-every d g h zero a = omega arith
 ascend-every d g h (suc n) a =
     let e : a + d + n * d ≡ a + suc n * d = omega (arith, suc-mul n d) in

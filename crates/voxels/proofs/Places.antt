@@ -1,21 +1,13 @@
 -- Where voxels lie: a point of the shape has an index below X·Y·Z, no two have one, and a step along an axis adds its stride. No law here rests on how long an
 -- axis may be.
 use mathlib.Core.Path.{_≡_, sym, _∙_, ap}
-use Prim.Native.Nat.{ℕ, _+_, _-_, _*_, _≤_, _<_}
-use native.Mathlib.Nat.{add-mul, one-mul, mul-le-mul-right, mul-add, mul-comm, mul-assoc, mul-one, mul-zero, mul-le-mul-left}
+use Prim.Native.Nat.{ℕ, _+_, _*_, _≤_, _<_}
+use native.Mathlib.Nat.{mul-add, mul-comm, mul-assoc, mul-one, mul-zero, mul-le-mul-left}
 use native.Mathlib.Omega.{arith}
 use Rattle.geometry.specs.declared.axis.Axis.{Axis}
 use Rattle.geometry.specs.declared.axis.Axis.the-variants.{X, Y, Z}
 use Rattle.geometry.specs.Point.{Point, at, along, put, moved, unitVector}
 use Rattle.voxels.specs.Shape.{size, index, stride, InShape}
-
--- A walk by a stride: after k steps it stands at the start plus k strides,
-pub next-at : (start k d i : ℕ) → i ≡ start + k * d → i + d ≡ start + (k + 1) * d
-next-at start k d i e = omega (arith, add-mul k 1 d, one-mul d)
-
--- and before the last of n it is not past the end.
-pub below-last : (start k n d i : ℕ) → k < n → i ≡ start + k * d → i + d ≤ start + n * d
-below-last start k n d i h e = omega (arith, add-mul k 1 d, one-mul d, mul-le-mul-right {m = k + 1} {n = n} d (omega arith))
 
 -- A step along an axis adds its stride.
 pub index-moved : (shape : Point) (a : Axis) (k : ℕ) (p : Point) → index shape (moved a k p) ≡ index shape p + k * stride shape a

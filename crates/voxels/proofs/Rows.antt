@@ -1,37 +1,31 @@
 -- Rows of voxels: rows that touch are one row, and a row passes where its greatest voxel is not bad.
-use mathlib.Core.List.{List, _++_, append-assoc}
-use mathlib.Core.Path.{_≡_, refl, sym, _∙_, ap}
+use mathlib.Core.List.{List, _++_}
+use mathlib.Core.Path.{_≡_, refl, sym, ap}
 use Prim.Native.Nat.{ℕ, zero, suc, _+_, _*_, _≤_, _<_}
-use native.Mathlib.Nat.{add-zero, zero-add, suc-add, mul-zero}
+use native.Mathlib.Nat.{mul-zero, mul-one}
 use native.Mathlib.Omega.{arith}
 use lib.Dec.{eqb}
 use lib.ListN.{getD}
 use borrow.Author.Tests.{eqb-true, eqb-false}
-use Rattle.geometry.specs.Refusal.{accepted, answer, checked}
+use Rattle.geometry.specs.Refusal.{accepted, Check, answer, checked}
 use Rattle.geometry.proofs.Refusals.{split}
+use Rattle.geometry.proofs.Orders.{part-passes}
 use Rattle.voxels.specs.Voxel.{class}
-use Rattle.voxels.specs.Extent.{every}
-use Rattle.voxels.specs.Inner.{mostVoxels, badAt, row, rows, AtMost, RowLent, RowsLent}
-use Rattle.voxels.proofs.Orders.{part-passes}
+use Rattle.voxels.specs.Loop.{looped, stepBy, every}
+use Rattle.voxels.specs.Entered.{mostVoxels}
+use Rattle.voxels.specs.Rows.{badAt, row, rows, AtMost, RowLent, RowsLent}
+use Rattle.voxels.proofs.Loops.{onward-by, loop-keeps, lists-join, loop-parts}
 use Rattle.voxels.proofs.Asked.{good-here}
 
 -- ---- rows that touch
 
--- A row is its first voxels, and then the others.
-row-parts : {A : Type 0} (g : ℕ → List A) (m n i : ℕ) → every 1 i (m + n) g ≡ every 1 i m g ++ every 1 (i + m) n g
-unfolding every
-row-parts g zero n i = rw (zero-add, add-zero)
-row-parts g (suc m) n i =
-    let e : i + suc m ≡ i + 1 + m = omega arith in
-    rw (suc-add m n, e, row-parts g m n (i + 1)) (sym (append-assoc (g i) (every 1 (i + 1) m g) (every 1 (i + 1 + m) n g)))
-
--- So rows that touch are one row.
+-- Rows that touch are one row.
 rows-touch : {A : Type 0} (g : ℕ → List A) (wide high i : ℕ) → row g (wide * high) i ≡ rows g wide wide high i
-unfolding row rows every
+unfolding row rows looped
 rows-touch g wide zero i = rw mul-zero
 rows-touch g wide (suc high) i =
     let e : wide * suc high ≡ wide + wide * high = omega arith in
-    rw e (row-parts g wide (wide * high) i ∙ ap (λ (r : List _). every 1 i wide g ++ r) (rows-touch g wide high (i + wide)))
+    rw (e, loop-parts lists-join (stepBy 1) g wide (wide * high) i, onward-by 1 i wide, mul-one) (ap (λ (r : List _). every 1 i wide g ++ r) (rows-touch g wide high (i + wide)))
 
 module _ (wide d : ℕ) (touch : wide ≡ d) where
   pub touching : {A : Type 0} (g : ℕ → List A) (high i : ℕ) → row g (wide * high) i ≡ rows g wide d high i
@@ -56,9 +50,7 @@ most-on vs i k most next low grown here j l =
 
 -- A row passes where no voxel of it is greater than one that is not bad.
 pub low-passes : (vs : List ℕ) (most wide i : ℕ) {c : ℕ} → c ≡ class most → c < 3 → AtMost vs i wide most → checked (row (badAt vs) wide i) ≡ accepted tt
-unfolding row every answer class
-low-passes vs most zero i is good low = refl
-low-passes vs most (suc wide) i is good low =
-    let first : getD vs i 0 ≤ most = rw add-zero at (low 0 (omega arith)) in
-    let rest = low-passes vs most wide (i + 1) is good (λ k l. let e : i + 1 + k ≡ i + suc k = omega arith in rw e (low (suc k) (omega arith))) in
-    sym (part-passes (badAt vs i) (every 1 (i + 1) wide (badAt vs)) tt (good-here vs i refl (λ e. omega arith)) (sym rest))
+unfolding row answer class
+low-passes vs most wide i is good low =
+    loop-keeps (λ (cs : List Check). checked cs ≡ accepted tt) refl (λ cs ds first rest. sym (part-passes cs ds tt first (sym rest))) (stepBy 1) (badAt vs) wide i
+    (λ k l. rw (onward-by 1 i k, mul-one) (good-here vs (i + k) refl (λ e. omega (arith, low k l))))

@@ -3,17 +3,21 @@
 use mathlib.Core.Bool.{Bool}
 use mathlib.Core.List.{List, [], _∷_, _++_, map, append-nil, append-assoc}
 use mathlib.Core.Path.{_≡_, refl, sym, _∙_, ap}
-use Prim.Native.Nat.{ℕ, zero, suc, _+_, _-_, _*_, _<_}
-use native.Mathlib.Nat.{add-zero, zero-mul, mul-one, suc-mul, not-suc-le-zero}
+use Prim.Native.Nat.{ℕ, _+_, _-_, _*_, _<_}
+use native.Mathlib.Nat.{mul-one}
 use native.Mathlib.Omega.{arith}
 use Rattle.geometry.specs.declared.axis.Axis.the-variants.{X, Y, Z}
 use Rattle.geometry.specs.Point.{Point, at, along}
+use Rattle.geometry.specs.Lists.{those, Each}
 use Rattle.geometry.proofs.Refusals.{split}
-use Rattle.voxels.specs.declared.extent.Extent.{Extent}
+use Rattle.geometry.proofs.Lists.{each-append, each-left, each-right}
 use Rattle.voxels.specs.Shape.{index, stride}
-use Rattle.voxels.specs.Extent.{Inside, every, upTo, scan, those, Each}
-use Rattle.voxels.specs.Inner.{gathered, kept, row, rows, slices, inStep}
+use Rattle.voxels.specs.Extent.{Inside, upTo, scan}
+use Rattle.voxels.specs.Loop.{stepBy, every, stand, onBy, inStep}
+use Rattle.voxels.specs.Rows.{gathered, kept, row, rows, slices}
+use Rattle.voxels.proofs.Loops.{onward-by, onward-both, loop-carried, loops-same, loop-keeps, loop-gives}
 use Rattle.voxels.proofs.Places.{index-at}
+use Rattle.voxels.specs.declared.extent.Extent.{Extent}
 
 -- ---- what is gathered from a list
 
@@ -35,37 +39,18 @@ gathered-append f [] m = refl
 gathered-append f (a ∷ l) m = rw (gathered-append f l m) (sym (append-assoc (f a) (gathered f l) (gathered f m)))
 
 gathered-every : {A B : Type 0} (f : A → List B) (d : ℕ) (g : ℕ → List A) (a n : ℕ) → gathered f (every d a n g) ≡ every d a n (λ (k : ℕ). gathered f (g k))
-unfolding gathered every
-gathered-every f d g a zero = refl
-gathered-every f d g a (suc n) = gathered-append f (g a) (every d (a + d) n g) ∙ ap (λ (r : List _). gathered f (g a) ++ r) (gathered-every f d g (a + d) n)
-
-pub each-same : {A : Type 0} (g h : ℕ → List A) (a n : ℕ) → ((k : ℕ) → g k ≡ h k) → every 1 a n g ≡ every 1 a n h
-unfolding every
-each-same g h a zero same = refl
-each-same g h a (suc n) same = rw (same a, each-same g h (a + 1) n same)
+unfolding gathered
+gathered-every f d g a n = loop-carried _++_ (gathered f) refl (gathered-append f) (stepBy d) g (stepBy d) _ n a a (λ k l. refl)
 
 -- ---- two loops that go hand in hand
 
 -- Where the k-th of one gives what the k-th of the other gives, the loops give the same.
 pub every-same : {A : Type 0} (c d : ℕ) (g h : ℕ → List A) (n a b : ℕ) → ((k : ℕ) → k < n → g (a + k * c) ≡ h (b + k * d)) → every c a n g ≡ every d b n h
-unfolding every
-every-same c d g h zero a b same = refl
-every-same c d g h (suc n) a b same =
-    let first : g a ≡ h b = rw (zero-mul, zero-mul, add-zero, add-zero) at (same 0 (omega arith)) in
-    let rest = every-same c d g h n (a + c) (b + d) (λ k l. on a k c g ∙ same (suc k) (omega arith) ∙ sym (on b k d h)) in
-    rw (first, rest)
-  where
-    on : {A : Type 0} (a k c : ℕ) (g : ℕ → List A) → g (a + c + k * c) ≡ g (a + suc k * c)
-    on a k c g = ap g (omega (arith, suc-mul k c))
+every-same c d g h n a b same = loops-same [] _++_ (stepBy c) g (stepBy d) h n a b (λ k l. rw (onward-by c a k, onward-by d b k) (same k l))
 
 -- A loop over a coordinate gives what a loop over it and an index a stride apart gives.
 pub every-in-step : {A : Type 0} (d : ℕ) (h : ℕ → List A) (g : ℕ → ℕ → List A) (n a i : ℕ) → ((k : ℕ) → k < n → h (a + k) ≡ g (a + k) (i + k * d)) → every 1 a n h ≡ inStep d g a i n
-unfolding every inStep
-every-in-step d h g zero a i same = refl
-every-in-step d h g (suc n) a i same =
-    let first : h a ≡ g a i = rw (zero-mul, add-zero, add-zero) at (same 0 (omega arith)) in
-    let rest = every-in-step d h g n (a + 1) (i + d) (λ k l. let x : a + suc k ≡ a + 1 + k = omega arith in let y : i + suc k * d ≡ i + d + k * d = omega (arith, suc-mul k d) in rw (x, y) at (same (suc k) (omega arith))) in
-    rw (first, rest)
+every-in-step d h g n a i same = loops-same [] _++_ (stepBy 1) h (onBy d) _ n a (stand a i) (λ k l. rw (onward-by 1 a k, mul-one, onward-both d a i k) (same k l))
 
 -- ---- scan order
 
@@ -75,11 +60,11 @@ pub gathered-scan : {A : Type 0} (f : Point → List A) (e : Extent) → gathere
 unfolding scan gathered
 gathered-scan f e =
     gathered-every f 1 _ (e .minimum .z) (e .bound .z - e .minimum .z)
-    ∙ each-same _ _ _ _ (λ z.
+    ∙ loops-same _ _ _ _ _ _ _ _ _ (λ k _.
     gathered-every f 1 _ (e .minimum .y) (e .bound .y - e .minimum .y)
-    ∙ each-same _ _ _ _ (λ y.
+    ∙ loops-same _ _ _ _ _ _ _ _ _ (λ j _.
     gathered-every f 1 _ (e .minimum .x) (e .bound .x - e .minimum .x)
-    ∙ each-same _ _ _ _ (λ x. append-nil (f (at x y z)))))
+    ∙ loops-same _ _ _ _ _ _ _ _ _ (λ i _. append-nil _)))
 
 -- A point so many steps up from the minimum, fewer than to the bound, lies in the extent.
 pub inside-at : (e : Extent) (i j k : ℕ) → i < e .bound .x - e .minimum .x → j < e .bound .y - e .minimum .y → k < e .bound .z - e .minimum .z
@@ -103,47 +88,14 @@ flat-scan shape f g e same =
 -- ---- what holds of each point of an extent
 
 module _ {A : Type 0} (P : A → Type 0) where
-  pub each-append : (l m : List A) → Each P l → Each P m → Each P (l ++ m)
-  unfolding Each
-  each-append [] m hl hm = hm
-  each-append (a ∷ l) m hl hm = (hl .0, each-append l m (hl .1) hm)
-
-  pub each-left : (l m : List A) → Each P (l ++ m) → Each P l
-  unfolding Each
-  each-left [] m h = tt
-  each-left (a ∷ l) m h = (h .0, each-left l m (h .1))
-
-  pub each-right : (l m : List A) → Each P (l ++ m) → Each P m
-  unfolding Each
-  each-right [] m h = h
-  each-right (a ∷ l) m h = each-right l m (h .1)
-
-  -- Of those that pass a test it holds too.
-  pub each-those : (test : A → Bool) (l : List A) → Each P l → Each P (those test l)
-  unfolding Each those
-  each-those test [] h = tt
-  each-those test (a ∷ l) h = split (test a) (λ t. rw (t, those) (h .0, each-those test l (h .1))) (λ f. rw (f, those) (each-those test l (h .1)))
-
   -- A loop gives what holds of each where each of its lists does,
   pub each-every : (g : ℕ → List A) (n a : ℕ) → ((k : ℕ) → k < n → Each P (g (a + k))) → Each P (every 1 a n g)
-  unfolding every Each
-  each-every g zero a h = tt
-  each-every g (suc n) a h =
-      each-append (g a) (every 1 (a + 1) n g) (rw add-zero at (h 0 (omega arith)))
-      (each-every g n (a + 1) (λ k l. let e : a + 1 + k ≡ a + suc k = omega arith in rw e (h (suc k) (omega arith))))
+  unfolding Each
+  each-every g n a h = loop-keeps (Each P) tt (each-append P) (stepBy 1) g n a (λ k l. rw (onward-by 1 a k, mul-one) (h k l))
 
   -- and only there.
   pub every-each : (g : ℕ → List A) (n a : ℕ) → Each P (every 1 a n g) → (k : ℕ) → k < n → Each P (g (a + k))
-  unfolding every
-  every-each g zero a h k l = absurd (not-suc-le-zero l)
-  every-each g (suc n) a h zero l = rw add-zero (each-left (g a) (every 1 (a + 1) n g) h)
-  every-each g (suc n) a h (suc k) l = let e : a + suc k ≡ a + 1 + k = omega arith in rw e (every-each g n (a + 1) (each-right (g a) (every 1 (a + 1) n g) h) k (omega arith))
-
--- What follows from something that holds of each holds of each.
-pub each-up : {A : Type 0} (P Q : A → Type 0) → ((a : A) → P a → Q a) → (l : List A) → Each P l → Each Q l
-unfolding Each
-each-up P Q f [] h = tt
-each-up P Q f (a ∷ l) h = (f a (h .0), each-up P Q f l (h .1))
+  every-each g n a h k l = rw (onward-by 1 a k, mul-one) at (loop-gives [] (Each P) (λ l m both. (each-left P l m both, each-right P l m both)) (stepBy 1) g n a h k l)
 
 -- Every point of the scan lies in the extent,
 pub scan-inside : (e : Extent) → Each (Inside e) (scan e)

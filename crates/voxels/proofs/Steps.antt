@@ -15,7 +15,7 @@ use Rattle.voxels.specs.declared.extent.Extent.{Extent}
 use Rattle.voxels.specs.Shape.{index, stride, InShape}
 use Rattle.voxels.specs.Extent.{box, interior, Inside}
 use Rattle.voxels.specs.Visible.{stepped, modulus, visibilityOffset, offsetIndex}
-use Rattle.voxels.specs.Inner.{Held}
+use Rattle.voxels.specs.Entered.{Held}
 use Rattle.voxels.proofs.Places.{index-moved, index-below}
 use Rattle.voxels.proofs.Held.{stride-small}
 

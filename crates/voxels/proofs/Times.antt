@@ -2,20 +2,23 @@
 use mathlib.Core.Bool.{Bool, true, false}
 use mathlib.Core.List.{List, [], _∷_, _++_}
 use mathlib.Core.Path.{_≡_, refl, sym, _∙_, ap}
-use Prim.Native.Nat.{ℕ, zero, suc, _+_, _-_, _*_, _≤_, _<_}
+use Prim.Native.Nat.{ℕ, zero, suc, _+_, _*_, _≤_, _<_}
 use native.Mathlib.Nat.{add-zero, zero-add}
 use native.Mathlib.Omega.{arith}
 use lib.Dec.{eqb, leb, ltb}
-use lib.ListN.{length}
 use borrow.Author.Tests.{eqb-true, eqb-false, eq-eqb, ne-eqb, leb-true, ltb-true, le-leb, lt-ltb}
 use Rattle.geometry.specs.declared.axis.Axis.the-variants.{X, Y, Z}
 use Rattle.geometry.specs.Point.{Point, at, along}
 use Rattle.geometry.specs.Axes.{bit}
+use Rattle.geometry.specs.Lists.{those, Each}
 use Rattle.geometry.proofs.Refusals.{split}
 use Rattle.geometry.proofs.Tests.{both-true}
+use Rattle.geometry.proofs.Lists.{each-up}
+use Rattle.voxels.specs.Extent.{Inside, scan, between, inside, samePoint, times}
+use Rattle.voxels.specs.Loop.{looped, stepBy, every}
+use Rattle.voxels.proofs.Loops.{onward-by, loop-keeps}
+use Rattle.voxels.proofs.Scan.{each-every, scan-inside}
 use Rattle.voxels.specs.declared.extent.Extent.{Extent}
-use Rattle.voxels.specs.Extent.{Inside, every, scan, those, Each, between, inside, samePoint, times, howMany}
-use Rattle.voxels.proofs.Scan.{each-every, each-up, scan-inside}
 
 -- ---- tests
 
@@ -71,7 +74,7 @@ module _ (p : Point) where
 
   -- In a loop whose lists have the point at one number alone, it stands as often as there.
   times-one : (g : ℕ → List Point) (q : ℕ) → ((k : ℕ) → (k ≡ q → ⊥) → times p (g k) ≡ 0) → (n a : ℕ) → a ≤ q → q < a + n → times p (every 1 a n g) ≡ times p (g q)
-  unfolding every times
+  unfolding looped times
   times-one g q off zero a l h = let none : ⊥ = omega arith in absurd none
   times-one g q off (suc n) a l h =
       times-append (g a) (every 1 (a + 1) n g)
@@ -85,8 +88,7 @@ module _ (p : Point) where
       rw (off a other) (zero-add (times p (every 1 (a + 1) n g)) ∙ times-one g q off n (a + 1) (omega arith) (omega arith)))
     where
       times-past : (g : ℕ → List Point) (q : ℕ) → ((k : ℕ) → (k ≡ q → ⊥) → times p (g k) ≡ 0) → (n a : ℕ) → q < a → times p (every 1 a n g) ≡ 0
-      times-past g q off zero a h = refl
-      times-past g q off (suc n) a h = times-append (g a) (every 1 (a + 1) n g) ∙ rw (off a (λ e. omega arith)) (zero-add (times p (every 1 (a + 1) n g)) ∙ times-past g q off n (a + 1) (omega arith))
+      times-past g q off n a h = loop-keeps (λ (l : List Point). times p l ≡ 0) refl (λ l m first rest. rw (times-append l m, first, rest)) (stepBy 1) g n a (λ k l. rw (onward-by 1 a k) (off _ (λ e. omega arith)))
 
   -- A row, and rows, that lie elsewhere do not have the point.
   other-x : (x y z : ℕ) → (x ≡ p .x → ⊥) → times p (at x y z ∷ []) ≡ 0
@@ -148,9 +150,3 @@ module _ (p : Point) where
       split (test q)
       (λ t. rw (t, those, o, zero-add (times p l)) (zero-add (times p (those test l)) ∙ before))
       (λ f. rw (f, those, o, zero-add (times p l)) before))
-
--- As many as pass are left.
-pub those-count : {A : Type 0} (test : A → Bool) (l : List A) → length (those test l) ≡ howMany test l
-unfolding those howMany
-those-count test [] = refl
-those-count test (a ∷ l) = split (test a) (λ t. rw (t, those, those-count test l) (omega arith)) (λ f. rw (f, those, those-count test l) (omega arith))

@@ -3,10 +3,10 @@
 use mathlib.Core.Path.{_≡_, refl, sym, _∙_, ap}
 use Prim.Native.Nat.{ℕ}
 use Rattle.geometry.proofs.One.{One, answered}
+use Rattle.geometry.proofs.Unique.{check-one}
 use Rattle.voxels.specs.declared.index.VoxelIndex.{VoxelIndex}
 use Rattle.voxels.specs.declared.index.Stride.{Stride}
-use Rattle.voxels.specs.Answers.{entryCheckMeaning, entryMeaning}
-use Rattle.voxels.specs.declared.bounds.EntryCheck
+use Rattle.voxels.specs.Answers.{entryMeaning}
 use Rattle.voxels.specs.declared.bounds.EntryAnswer
 use Rattle.voxels.proofs.bounds.check_bounds.Reads as check-bounds
 use Rattle.voxels.proofs.bounds.check_faces.Reads as check-faces
@@ -19,7 +19,6 @@ use Rattle.voxels.proofs.bounds.check_voxel_count.Reads as check-voxel-
 use Rattle.voxels.proofs.bounds.check_voxels.Reads as check-voxels
 use Rattle.voxels.proofs.bounds.enter_greedy.Reads as enter-greedy
 use Rattle.voxels.proofs.bounds.enter_unit.Reads as enter-unit
-use Rattle.voxels.proofs.bounds.first_refusal.Reads as first-refusal
 use Rattle.voxels.proofs.index.Stride.new.Reads as Stride-new
 use Rattle.voxels.proofs.index.Stride.visibility_offset.Reads as Stride-visibility-offset
 use Rattle.voxels.proofs.index.VoxelIndex.linearize.Reads as VoxelIndex-linearize
@@ -32,9 +31,6 @@ use Rattle.voxels.proofs.voxel.uniform.Reads as uniform
 
 -- ---- answers that mean the same are the same
 
-check-one : (r r′ : EntryCheck.EntryCheck) → entryCheckMeaning r ≡ entryCheckMeaning r′ → r ≡ r′
-check-one = answered entryCheckMeaning (λ u. EntryCheck.the-variants.Passed) EntryCheck.the-variants.Refused (elim [ EntryCheck.the-variants.Passed ↦ refl | EntryCheck.the-variants.Refused n p ↦ refl ])
-
 entry-one : (r r′ : EntryAnswer.EntryAnswer) → entryMeaning r ≡ entryMeaning r′ → r ≡ r′
 entry-one = answered entryMeaning EntryAnswer.the-variants.Entered EntryAnswer.the-variants.Refused (elim [ EntryAnswer.the-variants.Entered e ↦ refl | EntryAnswer.the-variants.Refused n p ↦ refl ])
 
@@ -45,9 +41,6 @@ stride-one : (r r′ : Stride) → r .0 ≡ r′ .0 → r ≡ r′
 stride-one r r′ e = ap (λ (n : ℕ). record { 0 = n }) e
 
 -- ---- the theorems
-
-pub first-refusal-unique : One first-refusal.Post
-first-refusal-unique κs a r r′ s s′ p q = check-one r r′ (p ∙ sym q)
 
 pub check-shape-unique : One check-shape.Post
 check-shape-unique κs a r r′ s s′ p q = check-one r r′ (p ∙ sym q)

@@ -1,16 +1,10 @@
--- What each answer means: document 01's value, number and place for each case of the enums of src/bounds.rt.
+-- What an entry means: document 01's value, number and place for each case of the enum of src/bounds.rt. What a check means is geometry's.
 use Rattle.geometry.specs.Refusal.{Answer, accepted, refused}
 use Rattle.geometry.specs.Point.{Point}
 use Rattle.voxels.specs.declared.bounds.Entry.{Entry}
 use Rattle.voxels.specs.Shape.{size}
 use Rattle.voxels.specs.Extent.{interior}
-use Rattle.voxels.specs.declared.bounds.EntryCheck
 use Rattle.voxels.specs.declared.bounds.EntryAnswer
-
--- A check that passed has nothing more to say.
-abbrev pub entryCheckMeaning : EntryCheck.EntryCheck → Answer (Unit {0})
-entryCheckMeaning EntryCheck.the-variants.Passed = accepted tt
-entryCheckMeaning (EntryCheck.the-variants.Refused n p) = refused n p
 
 -- What an accepted call needs.
 abbrev pub entryMeaning : EntryAnswer.EntryAnswer → Answer Entry

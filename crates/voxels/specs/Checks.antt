@@ -9,7 +9,7 @@ use lib.ListN.{length, getD}
 use Rattle.geometry.specs.declared.axis.Axis.{Axis}
 use Rattle.geometry.specs.declared.axis.Axis.the-variants.{X, Y, Z}
 use Rattle.geometry.specs.declared.face.OrientedBlockFace.{OrientedBlockFace}
-use Rattle.geometry.specs.Refusal.{Check, atPlace0}
+use Rattle.geometry.specs.Refusal.{Check, atPlace0, atPlace}
 use Rattle.geometry.specs.Point.{Point, along, axisNumber}
 use Rattle.geometry.specs.Quad.{largestAxis}
 use Rattle.geometry.specs.Checks.{badSign}
@@ -18,10 +18,6 @@ use Rattle.voxels.specs.Shape.{size, index}
 use Rattle.voxels.specs.Extent.{box, scan}
 
 -- ---- the refusals
-
--- A check at another place.
-abbrev pub atPlace : ℕ → Check → Check
-atPlace k c = record { number = c .number; applies = c .applies; place = k }
 
 -- A check made on each axis, the axis' number as its place: the first axis where it applies is given.
 abbrev pub onEachAxis : (Axis → Check) → List Check

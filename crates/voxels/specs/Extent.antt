@@ -1,12 +1,13 @@
 -- The box, its interior, and the order of their points: document 01, 'Voxels and their places', third and fourth point;
 -- simple.rs lines 51 to 56 and 61, greedy.rs 94 to 96, 104 to 106 and 169. The Rust leaves the arithmetic and the order to ilattice (`padded`, `iter3`).
-use mathlib.Core.Bool.{Bool, true, false, _&&_}
-use mathlib.Core.List.{List, [], _∷_, _++_}
-use Prim.Native.Nat.{ℕ, zero, suc, _+_, _-_, _≤_, _<_}
+use mathlib.Core.Bool.{Bool, _&&_}
+use mathlib.Core.List.{List, [], _∷_}
+use Prim.Native.Nat.{ℕ, _+_, _-_, _≤_, _<_}
 use lib.Dec.{eqb, leb, ltb}
 use Rattle.geometry.specs.declared.axis.Axis.{Axis}
 use Rattle.geometry.specs.Point.{Point, at, along}
 use Rattle.geometry.specs.Axes.{bit}
+use Rattle.voxels.specs.Loop.{every}
 use Rattle.voxels.specs.declared.extent.Extent.{Extent}
 
 -- "The box is min to max, max included": its bound is one past max on each axis.
@@ -21,11 +22,6 @@ interior min max = record { minimum = at (min .x + 1) (min .y + 1) (min .z + 1);
 abbrev pub Inside : Extent → Point → Type 0
 Inside e p = (a : Axis) → (along a (e .minimum) ≤ along a p) × (along a p < along a (e .bound))
 
--- The lists that `g` gives at a, a + d, a + 2·d, .., n of them, end to end.
-unfoldable pub every : {A : Type 0} → ℕ → ℕ → ℕ → (ℕ → List A) → List A
-every d a zero g = []
-every d a (suc n) g = g a ++ every d (a + d) n g
-
 -- The same at a, a + 1, .., up to but not with b.
 abbrev pub upTo : {A : Type 0} → ℕ → ℕ → (ℕ → List A) → List A
 upTo a b g = every 1 a (b - a) g
@@ -36,16 +32,6 @@ scan e =
     upTo (e .minimum .z) (e .bound .z) (λ (z : ℕ).
     upTo (e .minimum .y) (e .bound .y) (λ (y : ℕ).
     upTo (e .minimum .x) (e .bound .x) (λ (x : ℕ). at x y z ∷ [])))
-
--- Those of a list that pass a test, in the list's order.
-unfoldable pub those : {A : Type 0} → (A → Bool) → List A → List A
-those test [] = []
-those test (a ∷ l) = elim (test a) [ true ↦ a ∷ those test l | false ↦ those test l ]
-
--- Something holds of each of a list.
-unfoldable pub Each : {A : Type 0} → (A → Type 0) → List A → Type 0
-Each P [] = Unit {0}
-Each P (a ∷ l) = P a × Each P l
 
 -- Whether a number is one of those from a up to but not with b.
 unfoldable pub between : ℕ → ℕ → ℕ → Bool
@@ -65,8 +51,3 @@ samePoint p q = (eqb (p .x) (q .x) && eqb (p .y) (q .y)) && eqb (p .z) (q .z)
 unfoldable pub times : Point → List Point → ℕ
 times p [] = 0
 times p (q ∷ l) = bit (samePoint p q) + times p l
-
--- How many of a list pass a test.
-unfoldable pub howMany : {A : Type 0} → (A → Bool) → List A → ℕ
-howMany test [] = 0
-howMany test (a ∷ l) = bit (test a) + howMany test l

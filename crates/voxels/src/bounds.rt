@@ -1,19 +1,20 @@
 // What a mesher checks before it reads a voxel, after bounds.rs.
 //
 // Any shape, box, faces and lengths may be handed in. Each refusal is a function of its own, so that
-// other calls can put them in other orders: `first_refusal` joins two checks, and the first that
-// refuses is given, with its number and place.
+// other calls can put them in other orders with geometry's `first_refusal`.
 ghost use mathlib.Core.Path.{_≡_};
 ghost use mathlib.Core.Bool.{Bool};
 ghost use mathlib.Core.List.{[], _∷_, _++_};
 ghost use Prim.Native.Nat.{_+_, _-_, _*_, _<_, _≤_};
 ghost use lib.Dec.{ltb};
 ghost use lib.ListN.{length};
-ghost use Rattle.geometry.specs.Refusal.{checked, answer, follow, atPlace0};
+ghost use Rattle.geometry.specs.Refusal.{checked, answer, follow, atPlace0, atPlace};
+ghost use Rattle.geometry.specs.Answers.{checkMeaning};
 ghost use Rattle.voxels.specs.Shape.{size};
-ghost use Rattle.voxels.specs.Checks.{atPlace, badAxis, badShape, fewVoxels, minAboveMax, maxPastShape, minIsMax, badFaces, fewVisited, badVoxels, boundsChecks, boxChecks, unitChecks, greedyChecks};
-ghost use Rattle.voxels.specs.Answers.{entryCheckMeaning, entryMeaning, entry};
-ghost use Rattle.voxels.specs.Inner.{mostVoxels, Held, RowLent, RowsLent, SlicesLent, AtMost, badAt, row, rows, slices};
+ghost use Rattle.voxels.specs.Checks.{badAxis, badShape, fewVoxels, minAboveMax, maxPastShape, minIsMax, badFaces, fewVisited, badVoxels, boundsChecks, boxChecks, unitChecks, greedyChecks};
+ghost use Rattle.voxels.specs.Answers.{entryMeaning, entry};
+ghost use Rattle.voxels.specs.Entered.{mostVoxels, Held};
+ghost use Rattle.voxels.specs.Rows.{RowLent, RowsLent, SlicesLent, AtMost, badAt, row, rows, slices};
 use crate::extent::Extent;
 use crate::index::Stride;
 use crate::index::VoxelIndex;
@@ -23,13 +24,8 @@ use geometry::LARGEST_AXIS;
 use geometry::axis::Axis;
 use geometry::face::OrientedBlockFace;
 use geometry::refusal::CheckAnswer;
+use geometry::refusal::first_refusal;
 use geometry::vector::UVec3;
-
-// What a check says: nothing is refused, or the refusal number and its place.
-pub enum EntryCheck {
-    Passed,
-    Refused(u32, u64),
-}
 
 // What an accepted call needs of its block.
 pub struct Entry {
@@ -45,45 +41,35 @@ pub enum EntryAnswer {
     Refused(u32, u64),
 }
 
-// The first of two checks that refuses.
-pub fn first_refusal(first: EntryCheck, second: EntryCheck) -> EntryCheck
-    ensures { λ r. ⌜ entryCheckMeaning r ≡ follow (entryCheckMeaning first) (entryCheckMeaning second) ⌝ }
-{
-    match first {
-        EntryCheck::Passed => second,
-        EntryCheck::Refused(_, _) => first,
-    }
-}
-
 // A refusal on the first axis where it applies.
-fn check_axes(number: u32, x: bool, y: bool, z: bool) -> EntryCheck
-    ensures { λ r. ⌜ entryCheckMeaning r ≡ checked (atPlace0 number x ∷ atPlace 1 (atPlace0 number y) ∷ atPlace 2 (atPlace0 number z) ∷ []) ⌝ }
+fn check_axes(number: u32, x: bool, y: bool, z: bool) -> CheckAnswer
+    ensures { λ r. ⌜ checkMeaning r ≡ checked (atPlace0 number x ∷ atPlace 1 (atPlace0 number y) ∷ atPlace 2 (atPlace0 number z) ∷ []) ⌝ }
 {
     if x {
-        return EntryCheck::Refused(number, 0);
+        return CheckAnswer::Refused(number, 0);
     }
     if y {
-        return EntryCheck::Refused(number, 1);
+        return CheckAnswer::Refused(number, 1);
     }
     if z {
-        return EntryCheck::Refused(number, 2);
+        return CheckAnswer::Refused(number, 2);
     }
-    EntryCheck::Passed
+    CheckAnswer::Passed
 }
 
 // Whether an axis of a shape is 0 or above the largest.
-fn bad_axis(length: u32) -> bool
-    ensures { λ r. ⌜ r ≡ badAxis length ⌝ }
+fn bad_axis(n: u32) -> bool
+    ensures { λ r. ⌜ r ≡ badAxis n ⌝ }
 {
-    if length == 0 {
+    if n == 0 {
         return true;
     }
-    LARGEST_AXIS < length
+    LARGEST_AXIS < n
 }
 
 // 1: an axis of the shape is 0 or above the largest.
-pub fn check_shape(voxels_shape: UVec3) -> EntryCheck
-    ensures { λ r. ⌜ entryCheckMeaning r ≡ checked (badShape «voxels_shape») ⌝ }
+pub fn check_shape(voxels_shape: UVec3) -> CheckAnswer
+    ensures { λ r. ⌜ checkMeaning r ≡ checked (badShape «voxels_shape») ⌝ }
 {
     check_axes(
         refusal::SHAPE,
@@ -105,18 +91,18 @@ fn fewer(lent: usize, x: u32, y: u32, z: u32) -> bool
 }
 
 // 2: fewer voxels lent than the shape has.
-pub fn check_voxel_count(lent: usize, voxels_shape: UVec3) -> EntryCheck
-    ensures { λ r. ⌜ entryCheckMeaning r ≡ checked (fewVoxels lent «voxels_shape») ⌝ }
+pub fn check_voxel_count(lent: usize, voxels_shape: UVec3) -> CheckAnswer
+    ensures { λ r. ⌜ checkMeaning r ≡ checked (fewVoxels lent «voxels_shape») ⌝ }
 {
     if fewer(lent, voxels_shape.x, voxels_shape.y, voxels_shape.z) {
-        return EntryCheck::Refused(refusal::FEW_VOXELS, 0);
+        return CheckAnswer::Refused(refusal::FEW_VOXELS, 0);
     }
-    EntryCheck::Passed
+    CheckAnswer::Passed
 }
 
 // 3: min above max on an axis.
-pub fn check_min(min: UVec3, max: UVec3) -> EntryCheck
-    ensures { λ r. ⌜ entryCheckMeaning r ≡ checked (minAboveMax min max) ⌝ }
+pub fn check_min(min: UVec3, max: UVec3) -> CheckAnswer
+    ensures { λ r. ⌜ checkMeaning r ≡ checked (minAboveMax min max) ⌝ }
 {
     check_axes(
         refusal::MIN_ABOVE_MAX,
@@ -127,8 +113,8 @@ pub fn check_min(min: UVec3, max: UVec3) -> EntryCheck
 }
 
 // 4: max at or past the shape on an axis.
-pub fn check_max(voxels_shape: UVec3, max: UVec3) -> EntryCheck
-    ensures { λ r. ⌜ entryCheckMeaning r ≡ checked (maxPastShape «voxels_shape» max) ⌝ }
+pub fn check_max(voxels_shape: UVec3, max: UVec3) -> CheckAnswer
+    ensures { λ r. ⌜ checkMeaning r ≡ checked (maxPastShape «voxels_shape» max) ⌝ }
 {
     check_axes(
         refusal::MAX_PAST_SHAPE,
@@ -139,8 +125,8 @@ pub fn check_max(voxels_shape: UVec3, max: UVec3) -> EntryCheck
 }
 
 // 5: min equal to max on an axis.
-pub fn check_span(min: UVec3, max: UVec3) -> EntryCheck
-    ensures { λ r. ⌜ entryCheckMeaning r ≡ checked (minIsMax min max) ⌝ }
+pub fn check_span(min: UVec3, max: UVec3) -> CheckAnswer
+    ensures { λ r. ⌜ checkMeaning r ≡ checked (minIsMax min max) ⌝ }
 {
     check_axes(
         refusal::MIN_IS_MAX,
@@ -151,31 +137,31 @@ pub fn check_span(min: UVec3, max: UVec3) -> EntryCheck
 }
 
 // 6: a face's sign is neither 1 nor -1.
-pub fn check_faces(faces: [OrientedBlockFace; 6]) -> EntryCheck
-    ensures { λ r. ⌜ entryCheckMeaning r ≡ checked (badFaces faces) ⌝ }
+pub fn check_faces(faces: [OrientedBlockFace; 6]) -> CheckAnswer
+    ensures { λ r. ⌜ checkMeaning r ≡ checked (badFaces faces) ⌝ }
 {
     let mut k: usize = 0;
     while k < 6 {
         let face = faces[k];
         match face.check_sign() {
-            CheckAnswer::Refused(number) => {
-                return EntryCheck::Refused(number, k as u64);
+            CheckAnswer::Refused(number, _) => {
+                return CheckAnswer::Refused(number, k as u64);
             }
             CheckAnswer::Passed => {}
         }
         k += 1;
     }
-    EntryCheck::Passed
+    CheckAnswer::Passed
 }
 
 // 7: a visited buffer shorter than the shape has voxels.
-pub fn check_visited_count(lent: usize, voxels_shape: UVec3) -> EntryCheck
-    ensures { λ r. ⌜ entryCheckMeaning r ≡ checked (fewVisited lent «voxels_shape») ⌝ }
+pub fn check_visited_count(lent: usize, voxels_shape: UVec3) -> CheckAnswer
+    ensures { λ r. ⌜ checkMeaning r ≡ checked (fewVisited lent «voxels_shape») ⌝ }
 {
     if fewer(lent, voxels_shape.x, voxels_shape.y, voxels_shape.z) {
-        return EntryCheck::Refused(refusal::FEW_VISITED, 0);
+        return CheckAnswer::Refused(refusal::FEW_VISITED, 0);
     }
-    EntryCheck::Passed
+    CheckAnswer::Passed
 }
 
 // The greatest voxel of a row, or 0. The loop has no way out but its end, so that it is vectorized.
@@ -198,30 +184,30 @@ fn greatest(voxels: &[u16], start: VoxelIndex, wide: u32) -> u16
 }
 
 // The first bad voxel of a row, voxel by voxel.
-fn first_bad(voxels: &[u16], start: VoxelIndex, wide: u32) -> EntryCheck
+fn first_bad(voxels: &[u16], start: VoxelIndex, wide: u32) -> CheckAnswer
     requires { ⌜ RowLent (length (now voxels)) (start .0) wide ⌝ }
-    ensures { λ r. ⌜ entryCheckMeaning r ≡ checked (row (badAt (now (voxels .entry))) wide (start .0)) ⌝ }
+    ensures { λ r. ⌜ checkMeaning r ≡ checked (row (badAt (now (voxels .entry))) wide (start .0)) ⌝ }
 {
     let mut i = start.0 as usize;
     let end = i + (wide as usize);
     while i < end {
         if voxel::class(voxels[i]) == voxel::BAD {
-            return EntryCheck::Refused(refusal::BAD_VOXEL, i as u64);
+            return CheckAnswer::Refused(refusal::BAD_VOXEL, i as u64);
         }
         i += 1;
     }
-    EntryCheck::Passed
+    CheckAnswer::Passed
 }
 
 // The first bad voxel of a row. Bad voxels have the greatest numbers: where the greatest voxel is not
 // bad, none is.
-fn check_row(voxels: &[u16], start: VoxelIndex, wide: u32) -> EntryCheck
+fn check_row(voxels: &[u16], start: VoxelIndex, wide: u32) -> CheckAnswer
     requires { ⌜ RowLent (length (now voxels)) (start .0) wide ⌝ }
-    ensures { λ r. ⌜ entryCheckMeaning r ≡ checked (row (badAt (now (voxels .entry))) wide (start .0)) ⌝ }
+    ensures { λ r. ⌜ checkMeaning r ≡ checked (row (badAt (now (voxels .entry))) wide (start .0)) ⌝ }
 {
     let most = greatest(voxels, start, wide);
     if voxel::class(most) < voxel::BAD {
-        return EntryCheck::Passed;
+        return CheckAnswer::Passed;
     }
     first_bad(voxels, start, wide)
 }
@@ -233,24 +219,24 @@ fn check_each_row(
     wide: u32,
     y_stride: Stride,
     high: u32,
-) -> EntryCheck
+) -> CheckAnswer
     requires { ⌜ RowsLent (length (now voxels)) (start .0) wide («y_stride» .0) high ⌝ }
-    ensures { λ r. ⌜ entryCheckMeaning r ≡ checked (rows (badAt (now (voxels .entry))) wide («y_stride» .0) high (start .0)) ⌝ }
+    ensures { λ r. ⌜ checkMeaning r ≡ checked (rows (badAt (now (voxels .entry))) wide («y_stride» .0) high (start .0)) ⌝ }
 {
     let step = y_stride.0;
     let mut k: u32 = 0;
     let mut i = start.0;
     while k < high {
         match check_row(voxels, VoxelIndex(i), wide) {
-            EntryCheck::Refused(number, place) => {
-                return EntryCheck::Refused(number, place);
+            CheckAnswer::Refused(number, place) => {
+                return CheckAnswer::Refused(number, place);
             }
-            EntryCheck::Passed => {}
+            CheckAnswer::Passed => {}
         }
         k += 1;
         i += step;
     }
-    EntryCheck::Passed
+    CheckAnswer::Passed
 }
 
 // The first bad voxel of rows that lie a stride apart. Rows that touch are one row.
@@ -260,9 +246,9 @@ fn check_rows(
     wide: u32,
     y_stride: Stride,
     high: u32,
-) -> EntryCheck
+) -> CheckAnswer
     requires { ⌜ RowsLent (length (now voxels)) (start .0) wide («y_stride» .0) high ⌝ }
-    ensures { λ r. ⌜ entryCheckMeaning r ≡ checked (rows (badAt (now (voxels .entry))) wide («y_stride» .0) high (start .0)) ⌝ }
+    ensures { λ r. ⌜ checkMeaning r ≡ checked (rows (badAt (now (voxels .entry))) wide («y_stride» .0) high (start .0)) ⌝ }
 {
     if wide == y_stride.0 {
         return check_row(voxels, start, wide * high);
@@ -279,24 +265,24 @@ fn check_slices(
     high: u32,
     z_stride: Stride,
     deep: u32,
-) -> EntryCheck
+) -> CheckAnswer
     requires { ⌜ SlicesLent (length (now voxels)) (start .0) wide («y_stride» .0) high («z_stride» .0) deep ⌝ }
-    ensures { λ r. ⌜ entryCheckMeaning r ≡ checked (slices (badAt (now (voxels .entry))) wide («y_stride» .0) high («z_stride» .0) deep (start .0)) ⌝ }
+    ensures { λ r. ⌜ checkMeaning r ≡ checked (slices (badAt (now (voxels .entry))) wide («y_stride» .0) high («z_stride» .0) deep (start .0)) ⌝ }
 {
     let step = z_stride.0;
     let mut k: u32 = 0;
     let mut i = start.0;
     while k < deep {
         match check_rows(voxels, VoxelIndex(i), wide, y_stride, high) {
-            EntryCheck::Refused(number, place) => {
-                return EntryCheck::Refused(number, place);
+            CheckAnswer::Refused(number, place) => {
+                return CheckAnswer::Refused(number, place);
             }
-            EntryCheck::Passed => {}
+            CheckAnswer::Passed => {}
         }
         k += 1;
         i += step;
     }
-    EntryCheck::Passed
+    CheckAnswer::Passed
 }
 
 // How many voxels an axis of a box spans, max included.
@@ -308,9 +294,9 @@ fn span(min: u32, max: u32) -> u32
 }
 
 // The first bad voxel of a box that lies in the shape, rows in memory order.
-fn check_box(voxels: &[u16], voxels_shape: UVec3, min: UVec3, max: UVec3) -> EntryCheck
+fn check_box(voxels: &[u16], voxels_shape: UVec3, min: UVec3, max: UVec3) -> CheckAnswer
     requires { ⌜ Held «voxels_shape» (length (now voxels)) min max ⌝ }
-    ensures { λ r. ⌜ entryCheckMeaning r ≡ checked (badVoxels (now (voxels .entry)) «voxels_shape» min max) ⌝ }
+    ensures { λ r. ⌜ checkMeaning r ≡ checked (badVoxels (now (voxels .entry)) «voxels_shape» min max) ⌝ }
 {
     let start = VoxelIndex::linearize(voxels_shape, min);
     let y_stride = Stride::new(voxels_shape, Axis::Y);
@@ -322,8 +308,8 @@ fn check_box(voxels: &[u16], voxels_shape: UVec3, min: UVec3, max: UVec3) -> Ent
 }
 
 // 1 to 5: where they pass, the box lies in the shape and every voxel of it was lent.
-pub fn check_bounds(lent: usize, voxels_shape: UVec3, min: UVec3, max: UVec3) -> EntryCheck
-    ensures { λ r. ⌜ entryCheckMeaning r ≡ checked (boundsChecks lent «voxels_shape» min max) ⌝ }
+pub fn check_bounds(lent: usize, voxels_shape: UVec3, min: UVec3, max: UVec3) -> CheckAnswer
+    ensures { λ r. ⌜ checkMeaning r ≡ checked (boundsChecks lent «voxels_shape» min max) ⌝ }
 {
     let shape = check_shape(voxels_shape);
     let counted = first_refusal(shape, check_voxel_count(lent, voxels_shape));
@@ -333,12 +319,12 @@ pub fn check_bounds(lent: usize, voxels_shape: UVec3, min: UVec3, max: UVec3) ->
 }
 
 // 8, a bad voxel inside the box, after 1 to 5, without which there is no box to look at.
-pub fn check_voxels(voxels: &[u16], voxels_shape: UVec3, min: UVec3, max: UVec3) -> EntryCheck
-    ensures { λ r. ⌜ entryCheckMeaning r ≡ checked (boxChecks (now (voxels .entry)) «voxels_shape» min max) ⌝ }
+pub fn check_voxels(voxels: &[u16], voxels_shape: UVec3, min: UVec3, max: UVec3) -> CheckAnswer
+    ensures { λ r. ⌜ checkMeaning r ≡ checked (boxChecks (now (voxels .entry)) «voxels_shape» min max) ⌝ }
 {
     match check_bounds(voxels.len(), voxels_shape, min, max) {
-        EntryCheck::Refused(number, place) => EntryCheck::Refused(number, place),
-        EntryCheck::Passed => check_box(voxels, voxels_shape, min, max),
+        CheckAnswer::Refused(number, place) => CheckAnswer::Refused(number, place),
+        CheckAnswer::Passed => check_box(voxels, voxels_shape, min, max),
     }
 }
 
@@ -361,25 +347,25 @@ fn entered(voxels_shape: UVec3, lent: usize, min: UVec3, max: UVec3) -> Entry
 
 // The end of an entry: what was refused before, or 8, or what an accepted call needs.
 fn enter(
-    before: EntryCheck,
+    before: CheckAnswer,
     voxels: &[u16],
     voxels_shape: UVec3,
     min: UVec3,
     max: UVec3,
 ) -> EntryAnswer
-    ensures { λ r. ⌜ entryMeaning r ≡ follow (entryCheckMeaning before) (answer (boxChecks (now (voxels .entry)) «voxels_shape» min max) (entry «voxels_shape» min max)) ⌝ }
+    ensures { λ r. ⌜ entryMeaning r ≡ follow (checkMeaning before) (answer (boxChecks (now (voxels .entry)) «voxels_shape» min max) (entry «voxels_shape» min max)) ⌝ }
 {
     match before {
-        EntryCheck::Refused(number, place) => {
+        CheckAnswer::Refused(number, place) => {
             return EntryAnswer::Refused(number, place);
         }
-        EntryCheck::Passed => {}
+        CheckAnswer::Passed => {}
     }
     match check_voxels(voxels, voxels_shape, min, max) {
-        EntryCheck::Refused(number, place) => {
+        CheckAnswer::Refused(number, place) => {
             return EntryAnswer::Refused(number, place);
         }
-        EntryCheck::Passed => {}
+        CheckAnswer::Passed => {}
     }
     EntryAnswer::Entered(entered(voxels_shape, voxels.len(), min, max))
 }

@@ -21,6 +21,3 @@ pub const FEW_VISITED: u32 = 7;
 
 // A bad voxel inside the box.
 pub const BAD_VOXEL: u32 = 8;
-
-// More quads than the output holds.
-pub const MANY_QUADS: u32 = 9;

@@ -6,6 +6,21 @@ use Rattle.greedy.proofs.Outcome.{refused-outcome, size-is, is-accepted
 use Rattle.greedy.proofs.greedy_quads.Statement.{statement}
 use Rattle.greedy.proofs.greedy_quads.Tie as tie
 
+-- ---- places
+
+-- Where an entry is given, back to its checks, and to the call's start.
+abbrev checks : tie.After-entry → tie.After-enter-greedy
+checks c = c .before .before
+
+abbrev start : tie.After-enter-greedy → tie.Start
+start c = c .before .before .before .before
+
+-- Where the call was meshed, back to its entry.
+abbrev entered : tie.After-mesh → tie.After-entry
+entered c = c .before .before .before .before .before
+
+-- ---- the needs
+
 enter-greedy-requires : tie.Need-enter-greedy-requires
 enter-greedy-requires c κs = search needs
 
@@ -23,8 +38,9 @@ cast-size c = search needs
 
 mesh-requires : tie.Need-mesh-requires
 mesh-requires c κs =
-    let a = c .before .before .before .before .before .before .before .before .before .before .before .args in
-    let enters = sym (c .before .before .before .before .before .before .before .enter-greedy .ensures) ∙ ap entryMeaning (c .before .before .before .before .before .entry .given .1) in
+    let given = c .before .before .before .before in
+    let a = start (checks given) .args in
+    let enters = sym (checks given .enter-greedy .ensures) ∙ ap entryMeaning (given .entry .given .1) in
     (size-is (a .voxels .now) (a .voxels-shape) (a .min) (a .max) (a .faces) (a .visited .now) _ enters, is-accepted (a .voxels .now) (a .voxels-shape) (a .min) (a .max) (a .faces) (a .visited .now) _ enters)
 
 returns : tie.Need-returns
@@ -37,7 +53,10 @@ same-length-2 : tie.Need-same-length-2
 same-length-2 c = search needs
 
 returns-2 : tie.Need-returns-2
-returns-2 c = entered-outcome _ _ _ _ _ _ _ (sym (c .before .before .before .before .before .before .before .before .before .before .before .before .enter-greedy .ensures) ∙ ap entryMeaning (c .before .before .before .before .before .before .before .before .before .before .entry .given .1)) _ refl _ (c .before .before .before .before .mesh .ensures)
+returns-2 c =
+    let meshed = c .before .before .before .before in
+    let given = entered meshed in
+    entered-outcome _ _ _ _ _ _ _ (sym (checks given .enter-greedy .ensures) ∙ ap entryMeaning (given .entry .given .1)) _ refl _ (meshed .mesh .ensures)
 
 pub greedy-quads-spec : {M : Type 1} → statement M
 greedy-quads-spec =

@@ -2,7 +2,7 @@
 use borrow.Author.Needs.{needs}
 use Prim.Native.Nat.{_-_}
 use native.Mathlib.Omega.{arith}
-use Rattle.voxels.proofs.Places.{below-last}
+use Rattle.voxels.proofs.Loops.{next-fits}
 use Rattle.greedy.proofs.Passing.{Passing, pass-start, pass-on, pass-stops, pass-done}
 use Rattle.greedy.proofs.idle.Statement.{statement}
 use Rattle.greedy.proofs.idle.Tie as tie
@@ -17,7 +17,7 @@ loop-holds : tie.Need-loop-holds Inv-loop μ-loop
 loop-holds c = pass-start
 
 face-needs-mesh-requires : tie.Need-face-needs-mesh-requires Inv-loop μ-loop
-face-needs-mesh-requires c κs = let l = c .before .loop in rw (l .inv .place) (c .before .before .before .before .pre .each (l .k) (c .loop-test .taken))
+face-needs-mesh-requires c κs = let l = c .before .loop in rw (l .inv .at .place) (c .before .before .before .before .pre .each (l .k) (c .loop-test .taken))
 
 returns : tie.Need-returns Inv-loop μ-loop
 returns c = pass-stops (c .before .before .before .loop .inv) (c .before .face-needs-mesh .ensures) (c .if1 .taken)
@@ -27,9 +27,7 @@ add-k c = search needs
 
 add-i : tie.Need-add-i Inv-loop μ-loop
 add-i c =
-    let a = c .before .before .before .before .before .before .args in
-    let l = c .before .before .before .loop in
-    record { fits = omega (arith, below-last (a .start .0) (l .k) (a .most) (a .delta .0) (l .i) (c .before .before .loop-test .taken) (l .inv .place), c .before .before .before .before .before .before .pre .last) }
+    record { fits = omega (arith, next-fits (c .before .before .before .loop .inv .at) (c .before .before .loop-test .taken) (c .before .before .before .before .before .before .pre .last)) }
 
 loop-less : tie.Need-loop-less Inv-loop μ-loop
 loop-less c = omega arith

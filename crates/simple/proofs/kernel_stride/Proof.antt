@@ -6,7 +6,7 @@ use Rattle.geometry.specs.declared.axis.Axes.{Axes}
 use Rattle.geometry.specs.Axes.{positive}
 use Rattle.voxels.specs.Shape.{stride}
 use Rattle.voxels.specs.Visible.{modulus, visibilityOffset}
-use Rattle.simple.specs.Inner.{kernelStride}
+use Rattle.simple.specs.Kernel.{kernelStride}
 use Rattle.simple.proofs.kernel_stride.Statement.{statement}
 use Rattle.simple.proofs.kernel_stride.Tie as tie
 

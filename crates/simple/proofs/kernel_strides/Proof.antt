@@ -5,7 +5,8 @@ use Prim.Native.Nat.{ℕ, _-_, _≤_, _<_}
 use native.Mathlib.Omega.{arith}
 use lib.ListN.{length, getD, length-set}
 use Rattle.voxels.specs.declared.index.Stride.{Stride}
-use Rattle.simple.specs.Inner.{kernelStride, noFace, noStride, offsetOf}
+use Rattle.simple.specs.Ready.{noStride, offsetOf}
+use Rattle.simple.specs.Kernel.{kernelStride, noFace}
 use Rattle.simple.proofs.Sixes.{filled-next}
 use Rattle.simple.proofs.kernel_strides.Statement.{statement}
 use Rattle.simple.proofs.kernel_strides.Tie as tie

@@ -4,7 +4,8 @@ use mathlib.Core.Path.{_≡_, refl, sym, _∙_, ap}
 use Prim.Native.Nat.{ℕ, _-_, _*_, _≤_, _<_}
 use native.Mathlib.Omega.{arith}
 use lib.ListN.{length, getD, length-set}
-use Rattle.simple.specs.Inner.{mostListed, startOf}
+use Rattle.simple.specs.Ready.{mostListed}
+use Rattle.simple.specs.Kernel.{startOf}
 use Rattle.simple.proofs.Sixes.{filled-next, start-next}
 use Rattle.simple.proofs.run_starts.Statement.{statement}
 use Rattle.simple.proofs.run_starts.Tie as tie

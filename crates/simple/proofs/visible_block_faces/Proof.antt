@@ -6,9 +6,29 @@ use lib.ListN.{getD}
 use mir.Syntax.{w16}
 use mir.Val.{Fits}
 use Rattle.voxels.specs.Answers.{entryMeaning}
-use Rattle.simple.proofs.Outcome.{refused-outcome, is-entered, is-sound, entered-outcome}
+use Rattle.simple.proofs.Outcome.{refused-outcome, is-meshable, entered-outcome}
 use Rattle.simple.proofs.visible_block_faces.Statement.{statement}
 use Rattle.simple.proofs.visible_block_faces.Tie as tie
+
+-- ---- places
+
+-- From a refused entry back to where the checks answer,
+abbrev refusing : tie.After-number → tie.After-enter-unit
+refusing c = c .before .before
+
+-- from an accepted one back to there,
+abbrev entering : tie.After-entry → tie.After-enter-unit
+entering c = c .before .before
+
+-- and from there to where the voxels are known to be numbers of 16 bits.
+abbrev lending : tie.After-enter-unit → tie.After-shared-slice-known
+lending c = c .before .before
+
+-- From the call that meshes back to the accepted entry.
+abbrev entered : tie.After-mesh-arg → tie.After-entry
+entered c = c .before .before .before
+
+-- ---- the needs
 
 enter-unit-requires : tie.Need-enter-unit-requires
 enter-unit-requires c κs = search needs
@@ -24,19 +44,25 @@ enum-known-entry c = search needs
 
 mesh-requires : tie.Need-mesh-requires
 mesh-requires c κs =
-    let a = c .before .before .before .before .before .before .before .before .args in
-    let enters = sym (c .before .before .before .before .before .enter-unit .ensures) ∙ ap entryMeaning (c .before .before .before .entry .given .1) in
-    let small : (i : ℕ) → Fits w16 (getD (a .voxels .now) i 0) = λ i. c .before .before .before .before .before .before .before .shared-slice-known .given i in
-    (is-entered (a .voxels .now) (a .voxels-shape) (a .min) (a .max) (a .faces) _ enters, is-sound (a .voxels .now) (a .voxels-shape) (a .min) (a .max) (a .faces) _ enters (λ i. small i .fits))
+    let there = entered c in
+    let known = lending (entering there) in
+    let a = known .before .args in
+    let small : (i : ℕ) → Fits w16 (getD (a .voxels .now) i 0) = λ i. known .shared-slice-known .given i in
+    is-meshable (a .voxels .now) (a .voxels-shape) (a .min) (a .max) (a .faces) _ (sym (entering there .enter-unit .ensures) ∙ ap entryMeaning (there .entry .given .1)) (λ i. small i .fits)
 
 returns : tie.Need-returns
-returns c = refused-outcome _ _ _ _ _ _ _ (sym (c .before .before .before .before .enter-unit .ensures) ∙ ap entryMeaning (c .before .before .number .given .1)) (c .refused .ensures)
+returns c =
+    let there = c .before .before in
+    refused-outcome _ _ _ _ _ _ _ (sym (refusing there .enter-unit .ensures) ∙ ap entryMeaning (there .number .given .1)) (c .refused .ensures)
 
 same-length : tie.Need-same-length
 same-length c = search needs
 
 returns-2 : tie.Need-returns-2
-returns-2 c = entered-outcome _ _ _ _ _ _ (sym (c .before .before .before .before .before .before .before .before .enter-unit .ensures) ∙ ap entryMeaning (c .before .before .before .before .before .before .entry .given .1)) _ (c .before .before .mesh .ensures)
+returns-2 c =
+    let meshed = c .before .before in
+    let there = entered (meshed .before) in
+    entered-outcome _ _ _ _ _ _ (sym (entering there .enter-unit .ensures) ∙ ap entryMeaning (there .entry .given .1)) _ (meshed .mesh .ensures)
 
 pub visible-block-faces-spec : {M : Type 1} → statement M
 visible-block-faces-spec =

@@ -1,6 +1,6 @@
 -- `spot` meets its contract: each arm is given which axis it is.
 use borrow.Author.Needs.{needs}
-use Rattle.greedy.specs.Inner.{spot}
+use Rattle.greedy.specs.Spans.{spot}
 use Rattle.greedy.proofs.face_scan.spot.Statement.{statement}
 use Rattle.greedy.proofs.face_scan.spot.Tie as tie
 

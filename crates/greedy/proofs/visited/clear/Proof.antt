@@ -6,7 +6,7 @@ use mathlib.Core.Path.{_≡_, refl}
 use Prim.Native.Nat.{_-_, _≤_}
 use native.Mathlib.Omega.{arith}
 use lib.ListN.{length, length-set, drop, replicate}
-use Rattle.greedy.proofs.Loops.{cleared}
+use Rattle.greedy.proofs.Cleared.{cleared}
 use Rattle.greedy.proofs.visited.clear.Statement.{statement}
 use Rattle.greedy.proofs.visited.clear.Tie as tie
 

@@ -2,55 +2,58 @@
 use borrow.Author.Needs.{needs}
 use mathlib.Core.Path.{sym, _∙_}
 use Prim.Native.Nat.{ℕ, _-_}
-use native.Mathlib.Nat.{mul-le-mul-left}
 use native.Mathlib.Omega.{arith}
-use Rattle.simple.specs.Inner.{offsetOf, sliceShown, slicesShown}
-use Rattle.simple.proofs.Totals.{slice-at-most}
-use Rattle.simple.proofs.Sixes.{room-less}
-use Rattle.simple.proofs.Counting.{Counting, counting-start, counting-room, counting-place, counting-on, counting-done}
+use Rattle.voxels.proofs.Loops.{next-fits}
+use Rattle.simple.specs.Ready.{offsetOf, RowsReady}
+use Rattle.simple.specs.Count.{rowsShown, slicesShown}
+use Rattle.simple.proofs.Totals.{rows-reach}
+use Rattle.simple.proofs.Counting.{Counting, counting-start, counting-can, counting-on, counting-done}
 use Rattle.simple.proofs.count.count_slices.Statement.{statement}
 use Rattle.simple.proofs.count.count_slices.Tie as tie
 
 abbrev Inv-loop : tie.InvT-loop
-Inv-loop voxels kernel-strides counts₀ wide y-stride high deep step k₀ i₀ counts k i = Counting counts₀ counts (λ (f : ℕ). sliceShown voxels (offsetOf kernel-strides f) wide (y-stride .0) high) step i₀ deep k i
+Inv-loop voxels strides counts₀ rows deep step k₀ i₀ counts k i = Counting counts₀ counts (λ (f : ℕ). rowsShown voxels (offsetOf strides f) rows) step i₀ deep k i
 
 abbrev μ-loop : tie.MeasureT-loop
-μ-loop voxels kernel-strides counts₀ wide y-stride high deep step k₀ i₀ counts k i = deep - k
+μ-loop voxels strides counts₀ rows deep step k₀ i₀ counts k i = deep - k
+
+-- ---- places
+
+-- From the loop's test back to the entry,
+abbrev entry : tie.At-loop Inv-loop μ-loop → tie.Start Inv-loop μ-loop
+entry c = c .before .before .before .before
+
+-- and from a turn's end back to its test.
+abbrev turn : tie.After-slice-known2 Inv-loop μ-loop → tie.In-loop Inv-loop μ-loop
+turn c = c .before .before .before .before
+
+-- ---- the needs
 
 loop-holds : tie.Need-loop-holds Inv-loop μ-loop
-loop-holds c = counting-start (c .before .before .pre .1 .1 .all)
+loop-holds c = counting-start (c .before .before .before .pre .room .all)
 
 count-slice-requires : tie.Need-count-slice-requires Inv-loop μ-loop
 count-slice-requires c κs =
-    let a = c .before .before .before .before .before .args in
-    let l = c .before .before .loop in
-    let pre = c .before .before .before .before .before .pre in
-    let taken = c .before .loop-test .taken in
-    let here = l .inv .place in
-    let slices = pre .0 0 (omega arith) in
-    let apart = slices .apart in
-    let shorter = mul-le-mul-left {m = a .wide} {n = a .y-stride .0} (a .high) (slices .each (l .k) taken .apart) in (
-      λ f b. rw here (pre .0 f b .each (l .k) taken),
-      (
-        rw here (pre .1 .0 (l .k) taken),
-        room-less (counting-room (l .inv) (a .z-stride .0) (λ f j. omega (arith, slice-at-most (a .voxels .now) (offsetOf (a .kernel-strides) f) (a .wide) (a .y-stride .0) (a .high) j)) (pre .1 .1) taken) apart,
-      ),
-    )
+    let there = c .before .before in
+    let a = entry there .args in
+    counting-can (there .loop .inv) (λ (o j : ℕ). RowsReady (a .voxels .now) o j (a .slices .rows)) (entry there .pre) (λ f. rows-reach (a .voxels .now) (offsetOf (a .strides) f) (entry there .pre .each 0 (omega arith) .each (there .loop .k) (c .before .loop-test .taken))) (c .before .loop-test .taken)
 
 add-k : tie.Need-add-k Inv-loop μ-loop
 add-k c = search needs
 
 add-i : tie.Need-add-i Inv-loop μ-loop
-add-i c = record { fits = omega (arith, counting-place (c .before .before .before .before .before .loop .inv) (c .before .before .before .before .loop-test .taken) (c .before .before .before .before .before .before .before .before .pre .0 0 (omega arith) .last)) }
+add-i c =
+    let there = turn c .before in
+    record { fits = omega (arith, next-fits (there .loop .inv .at) (turn c .loop-test .taken) (entry there .pre .each 0 (omega arith) .last)) }
 
 loop-less : tie.Need-loop-less Inv-loop μ-loop
 loop-less c = omega arith
 
 loop-again : tie.Need-loop-again Inv-loop μ-loop
-loop-again c = counting-on (c .before .before .before .before .before .loop .inv) (c .before .before .before .before .loop-test .taken) (c .before .before .count-slice .ensures)
+loop-again c = counting-on (turn c .before .loop .inv) (turn c .loop-test .taken) (c .before .before .count-slice .ensures)
 
 same-length : tie.Need-same-length Inv-loop μ-loop
-same-length c = c .before .loop .inv .so-far .all ∙ sym (c .before .before .before .before .pre .1 .1 .all)
+same-length c = let there = c .before in there .loop .inv .so-far .all ∙ sym (entry there .pre .room .all)
 
 returns : tie.Need-returns Inv-loop μ-loop
 unfolding slicesShown

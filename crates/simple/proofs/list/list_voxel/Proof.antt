@@ -6,9 +6,10 @@ use mathlib.Core.Logic.{⊎-elim}
 use mathlib.Core.Path.{refl, sym, _∙_, ap}
 use Prim.Native.Nat.{ℕ, _-_}
 use native.Mathlib.Omega.{arith}
-use Rattle.geometry.specs.Point.{Point, at}
-use Rattle.voxels.specs.Inner.{keptIf}
-use Rattle.simple.specs.Inner.{offsetOf, voxelQuad}
+use Rattle.geometry.specs.Point.{Point}
+use Rattle.voxels.specs.Rows.{keptIf}
+use Rattle.simple.specs.Ready.{offsetOf}
+use Rattle.simple.specs.List.{voxelQuad}
 use Rattle.simple.proofs.Neighbours.{seen, unseen}
 use Rattle.simple.proofs.Sixes.{growing-room}
 use Rattle.simple.proofs.Cursors.{Faced, faces-start, faces-hidden, faces-shown, faces-done, faces-none}
@@ -16,10 +17,34 @@ use Rattle.simple.proofs.list.list_voxel.Statement.{statement}
 use Rattle.simple.proofs.list.list_voxel.Tie as tie
 
 abbrev Inv-loop : tie.InvT-loop
-Inv-loop voxels out₀ capacity cursors₀ index x y z kernel-strides i sight f₀ out cursors f = Faced out₀ cursors₀ (λ (f : ℕ). voxelQuad voxels (offsetOf kernel-strides f) y z x (index .0)) out cursors f
+Inv-loop voxels out₀ cursors₀ index minimum strides i sight f₀ out cursors f = Faced out₀ cursors₀ (λ (f : ℕ). voxelQuad voxels (offsetOf strides f) minimum (index .0)) out cursors f
 
 abbrev μ-loop : tie.MeasureT-loop
-μ-loop voxels out₀ capacity cursors₀ index x y z kernel-strides i sight f₀ out cursors f = 6 - f
+μ-loop voxels out₀ cursors₀ index minimum strides i sight f₀ out cursors f = 6 - f
+
+-- ---- places
+
+-- From where the voxel's sight is known back to the entry,
+abbrev entry : tie.After-sight Inv-loop μ-loop → tie.Start Inv-loop μ-loop
+entry c = c .before .before .before .before .before .before
+
+-- from the loop's test back to there,
+abbrev sighted : tie.At-loop Inv-loop μ-loop → tie.After-sight Inv-loop μ-loop
+sighted c = c .before .before
+
+-- from where a neighbour is read back to where its index is known,
+abbrev beside : tie.After-shared-slice-known3 Inv-loop μ-loop → tie.After-offset Inv-loop μ-loop
+beside c = c .before .before
+
+-- from there to the turn's test,
+abbrev turn : tie.After-offset Inv-loop μ-loop → tie.In-loop Inv-loop μ-loop
+turn c = c .before .before
+
+-- and from where a cursor is read, of a quad that is listed, to that test too.
+abbrev listing : tie.After-slice-known3 Inv-loop μ-loop → tie.In-loop Inv-loop μ-loop
+listing c = turn (beside (c .before .before .before))
+
+-- ---- the needs
 
 cast-i : tie.Need-cast-i Inv-loop μ-loop
 cast-i c = search needs
@@ -28,7 +53,7 @@ mul-sight : tie.Need-mul-sight Inv-loop μ-loop
 mul-sight c = search needs
 
 shared-slice-read-sight : tie.Need-shared-slice-read-sight Inv-loop μ-loop
-shared-slice-read-sight c = search needs
+shared-slice-read-sight c = c .before .before .before .before .before .pre .each 0 (omega arith) .here
 
 sight-requires : tie.Need-sight-requires Inv-loop μ-loop
 sight-requires c κs = search needs
@@ -36,12 +61,13 @@ sight-requires c κs = search needs
 returns : tie.Need-returns Inv-loop μ-loop
 unfolding voxelQuad
 returns c =
-    let a = c .before .before .before .before .before .before .before .args in
-    let h = c .before .before .before .before .before .before .before .pre in
-    faces-none (h .1 .1 .1 .all) (λ f. ap (λ (b : Bool). keptIf b (at (a .x) (a .y) (a .z))) (unseen (a .voxels .now) (offsetOf (a .t4) f) (a .index .0) (h .1 .0 .1) (c .before .sight .ensures) refl (omega (arith, c .if1 .taken))))
+    let known = c .before in
+    let a = entry known .args in
+    let h = entry known .pre in
+    faces-none (h .room .all) (λ f. ap (λ (b : Bool). keptIf b (a .minimum)) (unseen (a .voxels .now) (offsetOf (a .t3) f) (a .index .0) (h .each 0 (omega arith) .good) (known .sight .ensures) refl (omega (arith, c .if1 .taken))))
 
 loop-holds : tie.Need-loop-holds Inv-loop μ-loop
-loop-holds c = faces-start (c .before .before .before .before .before .before .before .pre .1 .1 .1 .all)
+loop-holds c = faces-start (entry (c .before) .pre .room .all)
 
 mul-stride : tie.Need-mul-stride Inv-loop μ-loop
 mul-stride c = search needs
@@ -59,25 +85,26 @@ mul-if2 : tie.Need-mul-if2 Inv-loop μ-loop
 mul-if2 c = search needs
 
 shared-slice-read-if2 : tie.Need-shared-slice-read-if2 Inv-loop μ-loop
-shared-slice-read-if2 c = rw (c .before .before .offset .ensures) (c .before .before .before .before .before .before .before .before .before .before .before .before .before .pre .1 .1 .0 (c .before .before .before .before .before .loop .f) (c .before .before .before .before .loop-test .taken))
+shared-slice-read-if2 c =
+    let there = turn (beside c) in
+    rw (beside c .offset .ensures) (entry (sighted (there .before)) .pre .each (there .before .loop .f) (there .loop-test .taken) .beyond)
 
 mul-push : tie.Need-mul-push Inv-loop μ-loop
 mul-push c = search needs
 
 slice-read-push : tie.Need-slice-read-push Inv-loop μ-loop
-slice-read-push c = omega (arith, c .before .before .before .before .before .before .before .before .loop .inv .moved .all)
+slice-read-push c = omega (arith, listing c .before .loop .inv .moved .all, listing c .loop-test .taken)
 
 push-requires : tie.Need-push-requires Inv-loop μ-loop
 push-requires c κs =
-    let l = c .before .before .before .before .before .before .before .before .loop in
-    let h = c .before .before .before .before .before .before .before .before .before .before .before .before .before .before .before .before .pre in
-    (rw (l .inv .long) (h .0), omega (arith, growing-room (l .inv .moved) (c .before .before .before .before .before .before .before .loop-test .taken) (h .1 .1 .1)))
+    let there = listing c .before in
+    omega (arith, growing-room (there .loop .inv .moved) (listing c .loop-test .taken) (entry (sighted there) .pre .room))
 
 mul-cursors : tie.Need-mul-cursors Inv-loop μ-loop
 mul-cursors c = search needs
 
 slice-write-cursors : tie.Need-slice-write-cursors Inv-loop μ-loop
-slice-write-cursors c = omega (arith, c .before .before .before .before .before .before .before .before .before .before .before .loop .inv .moved .all)
+slice-write-cursors c = let there = listing (c .before .before .before) in omega (arith, there .before .loop .inv .moved .all, there .loop-test .taken)
 
 add-f : tie.Need-add-f Inv-loop μ-loop
 add-f c = search needs
@@ -88,23 +115,24 @@ loop-less c = omega arith
 loop-again : tie.Need-loop-again Inv-loop μ-loop
 unfolding voxelQuad
 loop-again c =
-    let a = c .before .before .before .before .before .before .before .before .before .before .before .before .before .before .args in
-    let h = c .before .before .before .before .before .before .before .before .before .before .before .before .before .before .pre in
-    let l = c .before .before .before .before .before .before .loop in
-    let taken = c .before .before .before .before .before .loop-test .taken in
-    let sight = c .before .before .before .before .before .before .before .before .sight .ensures in
-    let beside = c .before .before .before .offset .ensures in
-    let listed : Bool → List Point = λ b. keptIf b (at (a .x) (a .y) (a .z)) in
+    let at-j = beside (c .before) .offset .ensures in
+    let there = turn (beside (c .before)) in
+    let l = there .before .loop in
+    let taken = there .loop-test .taken in
+    let sight = sighted (there .before) .sight .ensures in
+    let a = entry (sighted (there .before)) .args in
+    let good = entry (sighted (there .before)) .pre .each 0 (omega arith) .good in
+    let listed : Bool → List Point = λ b. keptIf b (a .minimum) in
     ⊎-elim
-    (λ w. rw (w .6, w .7) (faces-shown (l .inv) taken (at (a .x) (a .y) (a .z)) (ap listed (seen (a .voxels .now) _ (a .index .0) (h .1 .0 .1) sight beside (w .0 .taken))) (w .3 .ensures) (w .3 .kept .0)))
-    (λ w. rw (w .1, w .2) (faces-hidden (l .inv) taken (ap listed (unseen (a .voxels .now) _ (a .index .0) (h .1 .0 .1) sight beside (w .0 .left)))))
+    (λ w. rw (w .6, w .7) (faces-shown (l .inv) taken (a .minimum) (ap listed (seen (a .voxels .now) _ (a .index .0) good sight at-j (w .0 .taken))) (w .3 .ensures) (w .3 .kept .0)))
+    (λ w. rw (w .1, w .2) (faces-hidden (l .inv) taken (ap listed (unseen (a .voxels .now) _ (a .index .0) good sight at-j (w .0 .left)))))
     (c .if2 .came)
 
 same-length : tie.Need-same-length Inv-loop μ-loop
 same-length c = c .before .loop .inv .long
 
 same-length-2 : tie.Need-same-length-2 Inv-loop μ-loop
-same-length-2 c = c .before .loop .inv .moved .all ∙ sym (c .before .before .before .before .before .before .before .before .before .pre .1 .1 .1 .all)
+same-length-2 c = c .before .loop .inv .moved .all ∙ sym (entry (sighted (c .before)) .pre .room .all)
 
 returns-2 : tie.Need-returns-2 Inv-loop μ-loop
 returns-2 c = faces-done (c .before .loop .inv) (c .loop-test .left)

@@ -8,6 +8,14 @@ use Rattle.spunmarrow.proofs.Cases.{face-read}
 use Rattle.spunmarrow.proofs.draw.spunmarrow_corner.Statement.{statement}
 use Rattle.spunmarrow.proofs.draw.spunmarrow_corner.Tie as tie
 
+-- ---- places
+
+-- Where the position is asked for, where its corner had been read.
+abbrev choosing : tie.After-quad-mesh-position → tie.After-which
+choosing c = c .before .before .before
+
+-- ---- the needs
+
 face-requires : tie.Need-face-requires
 face-requires c κs = search needs
 
@@ -44,15 +52,28 @@ returns c = rw (face-read _ _ (c .before .before .before .before .fits .sign) (c
 
 returns-2 : tie.Need-returns-2
 unfolding cornerCall
-returns-2 c = rw (face-read _ _ (c .before .before .before .before .before .before .before .before .fits .sign) (c .before .before .before .before .before .before .before .face .ensures) (c .before .before .before .before .before .face2 .given .1), sym (c .before .before .before .corner .ensures) ∙ ap cornerMeaning (c .before .number2 .given .1))
+returns-2 c =
+    let told = c .before in
+    let face = told .before .before .before .before in
+    rw (face-read _ _ (face .before .before .before .fits .sign) (face .before .before .face .ensures) (face .face2 .given .1), sym (told .before .before .corner .ensures) ∙ ap cornerMeaning (told .number2 .given .1))
 
 returns-3 : tie.Need-returns-3
 unfolding cornerCall
-returns-3 c = rw (face-read _ _ (c .before .before .before .before .before .before .before .before .before .before .before .before .before .fits .sign) (c .before .before .before .before .before .before .before .before .before .before .before .before .face .ensures) (c .before .before .before .before .before .before .before .before .before .before .face2 .given .1), sym (c .before .before .before .before .before .before .before .before .corner .ensures) ∙ ap cornerMeaning (c .before .before .before .before .before .before .which .given .1), ← c .before .before .before .before .quad .ensures, sym (c .before .before .before .quad-mesh-position .ensures) ∙ ap positionMeaning (c .before .number3 .given .1))
+returns-3 c =
+    let told = c .before in
+    let position = told .before .before in
+    let corner = choosing position in
+    let face = corner .before .before .before .before in
+    rw (face-read _ _ (face .before .before .before .fits .sign) (face .before .before .face .ensures) (face .face2 .given .1), sym (corner .before .before .corner .ensures) ∙ ap cornerMeaning (corner .which .given .1), ← position .before .quad .ensures, sym (position .quad-mesh-position .ensures) ∙ ap positionMeaning (told .number3 .given .1))
 
 returns-4 : tie.Need-returns-4
 unfolding cornerCall
-returns-4 c = rw (face-read _ _ (c .before .before .before .before .before .before .before .before .before .before .before .before .before .before .fits .sign) (c .before .before .before .before .before .before .before .before .before .before .before .before .before .face .ensures) (c .before .before .before .before .before .before .before .before .before .before .before .face2 .given .1), sym (c .before .before .before .before .before .before .before .before .before .corner .ensures) ∙ ap cornerMeaning (c .before .before .before .before .before .before .before .which .given .1), ← c .before .before .before .before .before .quad .ensures, sym (c .before .before .before .before .quad-mesh-position .ensures) ∙ ap positionMeaning (c .before .before .x .given .1))
+returns-4 c =
+    let made = c .before .before in
+    let position = made .before .before in
+    let corner = choosing position in
+    let face = corner .before .before .before .before in
+    rw (face-read _ _ (face .before .before .before .fits .sign) (face .before .before .face .ensures) (face .face2 .given .1), sym (corner .before .before .corner .ensures) ∙ ap cornerMeaning (corner .which .given .1), ← position .before .quad .ensures, sym (position .quad-mesh-position .ensures) ∙ ap positionMeaning (made .x .given .1))
 
 pub spunmarrow-corner-spec : {M : Type 1} → statement M
 spunmarrow-corner-spec =

@@ -7,6 +7,14 @@ use Rattle.spunmarrow.proofs.Cases.{face-read}
 use Rattle.spunmarrow.proofs.draw.spunmarrow_corners.Statement.{statement}
 use Rattle.spunmarrow.proofs.draw.spunmarrow_corners.Tie as tie
 
+-- ---- places
+
+-- Where the corners are written, where they were made.
+abbrev making : tie.After-out → tie.After-corners
+making c = c .before .before .before .before .before .before
+
+-- ---- the needs
+
 face-requires : tie.Need-face-requires
 face-requires c κs = search needs
 
@@ -34,11 +42,19 @@ returns c = rw (face-read _ _ (c .before .before .before .before .fits .sign) (c
 
 returns-2 : tie.Need-returns-2
 unfolding cornersCall
-returns-2 c = rw (face-read _ _ (c .before .before .before .before .before .before .before .before .before .fits .sign) (c .before .before .before .before .before .before .before .before .face .ensures) (c .before .before .before .before .before .before .face2 .given .1), ← c .before .before .before .before .quad .ensures, sym (c .before .before .before .quad-corners .ensures) ∙ ap cornersMeaning (c .before .number2 .given .1))
+returns-2 c =
+    let told = c .before in
+    let corners = told .before .before in
+    let face = corners .before .before .before in
+    rw (face-read _ _ (face .before .before .before .fits .sign) (face .before .before .face .ensures) (face .face2 .given .1), ← corners .before .quad .ensures, sym (corners .quad-corners .ensures) ∙ ap cornersMeaning (told .number2 .given .1))
 
 returns-3 : tie.Need-returns-3
 unfolding cornersCall
-returns-3 c = rw (face-read _ _ (c .before .before .before .before .before .before .before .before .before .before .before .before .before .before .fits .sign) (c .before .before .before .before .before .before .before .before .before .before .before .before .before .face .ensures) (c .before .before .before .before .before .before .before .before .before .before .before .face2 .given .1), ← c .before .before .before .before .before .before .before .before .before .quad .ensures, sym (c .before .before .before .before .before .before .before .before .quad-corners .ensures) ∙ ap cornersMeaning (c .before .before .before .before .before .before .corners .given .1))
+returns-3 c =
+    let made = making c in
+    let corners = made .before .before in
+    let face = corners .before .before .before in
+    rw (face-read _ _ (face .before .before .before .fits .sign) (face .before .before .face .ensures) (face .face2 .given .1), ← corners .before .quad .ensures, sym (corners .quad-corners .ensures) ∙ ap cornersMeaning (made .corners .given .1))
 
 pub spunmarrow-corners-spec : {M : Type 1} → statement M
 spunmarrow-corners-spec =

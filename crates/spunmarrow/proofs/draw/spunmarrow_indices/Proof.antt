@@ -7,6 +7,14 @@ use Rattle.spunmarrow.proofs.Cases.{face-read}
 use Rattle.spunmarrow.proofs.draw.spunmarrow_indices.Statement.{statement}
 use Rattle.spunmarrow.proofs.draw.spunmarrow_indices.Tie as tie
 
+-- ---- places
+
+-- Where the indices are written, where they were made.
+abbrev making : tie.After-out → tie.After-i
+making c = c .before .before .before .before .before .before .before .before
+
+-- ---- the needs
+
 face-requires : tie.Need-face-requires
 face-requires c κs = search needs
 
@@ -31,11 +39,19 @@ returns c = rw (face-read _ _ (c .before .before .before .before .fits .sign) (c
 
 returns-2 : tie.Need-returns-2
 unfolding indicesCall
-returns-2 c = rw (face-read _ _ (c .before .before .before .before .before .before .before .before .fits .sign) (c .before .before .before .before .before .before .before .face .ensures) (c .before .before .before .before .before .face2 .given .1), sym (c .before .before .before .quad-mesh-indices .ensures) ∙ ap indicesMeaning (c .before .number2 .given .1))
+returns-2 c =
+    let told = c .before in
+    let indices = told .before .before in
+    let face = indices .before .before in
+    rw (face-read _ _ (face .before .before .before .fits .sign) (face .before .before .face .ensures) (face .face2 .given .1), sym (indices .quad-mesh-indices .ensures) ∙ ap indicesMeaning (told .number2 .given .1))
 
 returns-3 : tie.Need-returns-3
 unfolding indicesCall
-returns-3 c = rw (face-read _ _ (c .before .before .before .before .before .before .before .before .before .before .before .before .before .before .before .fits .sign) (c .before .before .before .before .before .before .before .before .before .before .before .before .before .before .face .ensures) (c .before .before .before .before .before .before .before .before .before .before .before .before .face2 .given .1), sym (c .before .before .before .before .before .before .before .before .before .before .quad-mesh-indices .ensures) ∙ ap indicesMeaning (c .before .before .before .before .before .before .before .before .i .given .1))
+returns-3 c =
+    let made = making c in
+    let indices = made .before .before in
+    let face = indices .before .before in
+    rw (face-read _ _ (face .before .before .before .fits .sign) (face .before .before .face .ensures) (face .face2 .given .1), sym (indices .quad-mesh-indices .ensures) ∙ ap indicesMeaning (made .i .given .1))
 
 pub spunmarrow-indices-spec : {M : Type 1} → statement M
 spunmarrow-indices-spec =

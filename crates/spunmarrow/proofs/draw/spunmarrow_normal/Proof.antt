@@ -7,6 +7,14 @@ use Rattle.spunmarrow.proofs.Cases.{face-read}
 use Rattle.spunmarrow.proofs.draw.spunmarrow_normal.Statement.{statement}
 use Rattle.spunmarrow.proofs.draw.spunmarrow_normal.Tie as tie
 
+-- ---- places
+
+-- Where the normal is written, where the normals were made.
+abbrev making : tie.After-out → tie.After-normals
+making c = c .before .before .before
+
+-- ---- the needs
+
 face-requires : tie.Need-face-requires
 face-requires c κs = search needs
 
@@ -31,11 +39,19 @@ returns c = rw (face-read _ _ (c .before .before .before .before .fits .sign) (c
 
 returns-2 : tie.Need-returns-2
 unfolding normalCall
-returns-2 c = rw (face-read _ _ (c .before .before .before .before .before .before .before .before .fits .sign) (c .before .before .before .before .before .before .before .face .ensures) (c .before .before .before .before .before .face2 .given .1), sym (c .before .before .before .quad-mesh-normals .ensures) ∙ ap normalsMeaning (c .before .number2 .given .1))
+returns-2 c =
+    let told = c .before in
+    let normals = told .before .before in
+    let face = normals .before .before in
+    rw (face-read _ _ (face .before .before .before .fits .sign) (face .before .before .face .ensures) (face .face2 .given .1), sym (normals .quad-mesh-normals .ensures) ∙ ap normalsMeaning (told .number2 .given .1))
 
 returns-3 : tie.Need-returns-3
 unfolding normalCall
-returns-3 c = rw (face-read _ _ (c .before .before .before .before .before .before .before .before .before .before .fits .sign) (c .before .before .before .before .before .before .before .before .before .face .ensures) (c .before .before .before .before .before .before .before .face2 .given .1), sym (c .before .before .before .before .before .quad-mesh-normals .ensures) ∙ ap normalsMeaning (c .before .before .before .normals .given .1))
+returns-3 c =
+    let made = making c in
+    let normals = made .before .before in
+    let face = normals .before .before in
+    rw (face-read _ _ (face .before .before .before .fits .sign) (face .before .before .face .ensures) (face .face2 .given .1), sym (normals .quad-mesh-normals .ensures) ∙ ap normalsMeaning (made .normals .given .1))
 
 pub spunmarrow-normal-spec : {M : Type 1} → statement M
 spunmarrow-normal-spec =

@@ -8,6 +8,18 @@ use Rattle.spunmarrow.proofs.Cases.{face-read}
 use Rattle.spunmarrow.proofs.draw.spunmarrow_tex_coords.Statement.{statement}
 use Rattle.spunmarrow.proofs.draw.spunmarrow_tex_coords.Tie as tie
 
+-- ---- places
+
+-- Where the pairs are written, where they were made,
+abbrev making : tie.After-out → tie.After-pairs
+making c = c .before .before .before .before .before .before
+
+-- where the axis had been read before they were asked for.
+abbrev choosing : tie.After-tex-coords → tie.After-axis2
+choosing c = c .before .before .before
+
+-- ---- the needs
+
 face-requires : tie.Need-face-requires
 face-requires c κs = search needs
 
@@ -44,15 +56,28 @@ returns c = rw (face-read _ _ (c .before .before .before .before .fits .sign) (c
 
 returns-2 : tie.Need-returns-2
 unfolding texCoordsCall
-returns-2 c = rw (face-read _ _ (c .before .before .before .before .before .before .before .before .fits .sign) (c .before .before .before .before .before .before .before .face .ensures) (c .before .before .before .before .before .face2 .given .1), sym (c .before .before .before .axis .ensures) ∙ ap axisMeaning (c .before .number2 .given .1))
+returns-2 c =
+    let told = c .before in
+    let face = told .before .before .before .before in
+    rw (face-read _ _ (face .before .before .before .fits .sign) (face .before .before .face .ensures) (face .face2 .given .1), sym (told .before .before .axis .ensures) ∙ ap axisMeaning (told .number2 .given .1))
 
 returns-3 : tie.Need-returns-3
 unfolding texCoordsCall
-returns-3 c = rw (face-read _ _ (c .before .before .before .before .before .before .before .before .before .before .before .before .before .fits .sign) (c .before .before .before .before .before .before .before .before .before .before .before .before .face .ensures) (c .before .before .before .before .before .before .before .before .before .before .face2 .given .1), sym (c .before .before .before .before .before .before .before .before .axis .ensures) ∙ ap axisMeaning (c .before .before .before .before .before .before .axis2 .given .1), ← c .before .before .before .before .quad .ensures, sym (c .before .before .before .tex-coords .ensures) ∙ ap texCoordsMeaning (c .before .number3 .given .1))
+returns-3 c =
+    let told = c .before in
+    let pairs = told .before .before in
+    let axis = choosing pairs in
+    let face = axis .before .before .before .before in
+    rw (face-read _ _ (face .before .before .before .fits .sign) (face .before .before .face .ensures) (face .face2 .given .1), sym (axis .before .before .axis .ensures) ∙ ap axisMeaning (axis .axis2 .given .1), ← pairs .before .quad .ensures, sym (pairs .tex-coords .ensures) ∙ ap texCoordsMeaning (told .number3 .given .1))
 
 returns-4 : tie.Need-returns-4
 unfolding texCoordsCall
-returns-4 c = rw (face-read _ _ (c .before .before .before .before .before .before .before .before .before .before .before .before .before .before .before .before .before .before .fits .sign) (c .before .before .before .before .before .before .before .before .before .before .before .before .before .before .before .before .before .face .ensures) (c .before .before .before .before .before .before .before .before .before .before .before .before .before .before .before .face2 .given .1), sym (c .before .before .before .before .before .before .before .before .before .before .before .before .before .axis .ensures) ∙ ap axisMeaning (c .before .before .before .before .before .before .before .before .before .before .before .axis2 .given .1), ← c .before .before .before .before .before .before .before .before .before .quad .ensures, sym (c .before .before .before .before .before .before .before .before .tex-coords .ensures) ∙ ap texCoordsMeaning (c .before .before .before .before .before .before .pairs .given .1))
+returns-4 c =
+    let made = making c in
+    let pairs = made .before .before in
+    let axis = choosing pairs in
+    let face = axis .before .before .before .before in
+    rw (face-read _ _ (face .before .before .before .fits .sign) (face .before .before .face .ensures) (face .face2 .given .1), sym (axis .before .before .axis .ensures) ∙ ap axisMeaning (axis .axis2 .given .1), ← pairs .before .quad .ensures, sym (pairs .tex-coords .ensures) ∙ ap texCoordsMeaning (made .pairs .given .1))
 
 pub spunmarrow-tex-coords-spec : {M : Type 1} → statement M
 spunmarrow-tex-coords-spec =

@@ -1,10 +1,26 @@
 -- `spunmarrow_greedy_quads` meets its contract: the check of the faces decides, or greedy meshing.
 use borrow.Author.Needs.{needs}
 use mathlib.Core.Path.{ap}
-use Rattle.voxels.specs.Answers.{entryCheckMeaning}
+use Rattle.geometry.specs.Answers.{checkMeaning}
 use Rattle.spunmarrow.proofs.Left.{greedy-refused, greedy-made}
 use Rattle.spunmarrow.proofs.mesh.spunmarrow_greedy_quads.Statement.{statement}
 use Rattle.spunmarrow.proofs.mesh.spunmarrow_greedy_quads.Tie as tie
+
+-- ---- places
+
+-- Where the mesher was called,
+abbrev meshing : tie.After-write → tie.After-greedy-quads
+meshing c = c .before .before .before .before .before .before .before
+
+-- where all that it is lent was read, the faces last,
+abbrev reading : tie.After-greedy-quads → tie.After-faces
+reading c = c .before .before .before
+
+-- and where the check of the faces had passed.
+abbrev passing : tie.After-faces → tie.After-enum-told
+passing c = c .before .before .before .before
+
+-- ---- the needs
 
 check-faces-requires : tie.Need-check-faces-requires
 check-faces-requires c κs = search needs
@@ -38,8 +54,8 @@ write-requires c κs = search needs
 
 returns : tie.Need-returns
 returns c =
-    let a = c .before .before .before .before .before .before .before .before .before .args in
-    greedy-refused (a .shape .now) (a .min .now) (a .max .now) (a .faces .now) (a .voxels .now) (a .visited .now) (a .out .now) (c .before .before .before .before .before .check-faces .ensures) (ap entryCheckMeaning (c .before .before .before .number .given .1)) (c .refuse .ensures)
+    let told = c .before .before .before in
+    greedy-refused _ _ _ _ _ _ _ (told .before .before .check-faces .ensures) (ap checkMeaning (told .number .given .1)) (c .refuse .ensures)
 
 same-length : tie.Need-same-length
 same-length c = search needs
@@ -49,9 +65,10 @@ same-length-2 c = search needs
 
 returns-2 : tie.Need-returns-2
 returns-2 c =
-    let a = c .before .before .before .before .before .before .before .before .before .before .before .before .before .before .before .before .before .before .before .before .args in
-    greedy-made (a .shape .now) (a .min .now) (a .max .now) (a .faces .now) (a .voxels .now) (a .visited .now) (a .out .now) (c .before .before .before .before .before .before .before .before .before .before .before .before .before .before .before .before .check-faces .ensures) (ap entryCheckMeaning (c .before .before .before .before .before .before .before .before .before .before .before .before .before .before .enum-told .given .1))
-    (c .before .before .before .before .before .before .before .before .before .before .before .before .before .point .ensures) (c .before .before .before .before .before .before .before .before .before .before .before .before .point2 .ensures) (c .before .before .before .before .before .before .before .before .before .before .before .point3 .ensures) (c .before .before .before .before .before .before .before .before .before .before .faces .ensures) (c .before .before .before .before .before .before .before .greedy-quads .ensures) (c .write .ensures)
+    let read = reading (meshing c) in
+    let passed = passing read in
+    greedy-made _ _ _ _ _ _ _ (passed .before .before .check-faces .ensures) (ap checkMeaning (passed .enum-told .given .1))
+    (read .before .before .before .point .ensures) (read .before .before .point2 .ensures) (read .before .point3 .ensures) (read .faces .ensures) (meshing c .greedy-quads .ensures) (c .write .ensures)
 
 pub spunmarrow-greedy-quads-spec : {M : Type 1} → statement M
 spunmarrow-greedy-quads-spec =

@@ -1,8 +1,12 @@
 -- `write` meets its contract: six counts are all that their list has.
 use borrow.Author.Needs.{needs}
+use lib.ListN.{length-map}
 use Rattle.spunmarrow.proofs.Nine.{written-nine}
 use Rattle.spunmarrow.proofs.mesh.write.Statement.{statement}
 use Rattle.spunmarrow.proofs.mesh.write.Tie as tie
+
+abbrev entry : tie.After-answer → tie.Start
+entry c = c .before .before .before
 
 array-read-a : tie.Need-array-read-a
 array-read-a c = search needs
@@ -22,8 +26,11 @@ array-read-e c = search needs
 array-read-f : tie.Need-array-read-f
 array-read-f c = search needs
 
+cast-number : tie.Need-cast-number
+cast-number c = search needs
+
 returns : tie.Need-returns
-returns c = let a = c .before .args in written-nine (a .refusal) (a .place) (a .t4) (a .tests) (c .before .good .1 .1 .1 .0 .1 .0 .1)
+returns c = written-nine (entry c .args .mesh) _ (simp length-map at (entry c .good .1 .0 .1 .1 .1 .1 .0 .1 .0 .1))
 
 pub write-spec : {M : Type 1} → statement M
 write-spec =
@@ -35,4 +42,5 @@ write-spec =
     array-read-d
     array-read-e
     array-read-f
+    cast-number
     returns)

@@ -5,7 +5,7 @@ use Prim.Native.Nat.{_-_, _≤_}
 use native.Mathlib.Omega.{arith}
 use Rattle.geometry.specs.Refusal.{checked}
 use Rattle.geometry.specs.Answers.{permutationMeaning}
-use Rattle.voxels.specs.Extent.{every}
+use Rattle.voxels.specs.Loop.{every}
 use Rattle.voxels.proofs.Asked.{ask-done}
 use Rattle.spunmarrow.specs.Faces.{badNumber, badNumbers}
 use Rattle.spunmarrow.proofs.Six.{face-on, face-stops}
@@ -17,6 +17,10 @@ Inv-loop numbers k₀ k = (k ≤ 6) × (checked (every 1 k (6 - k) (badNumber nu
 
 abbrev μ-loop : tie.MeasureT-loop
 μ-loop numbers k₀ k = 6 - k
+
+-- Where a face's permutation is known, where its turn had begun.
+abbrev turn : tie.After-permutation Inv-loop μ-loop → tie.At-loop Inv-loop μ-loop
+turn c = c .before .before .before
 
 loop-holds : tie.Need-loop-holds Inv-loop μ-loop
 unfolding badNumbers
@@ -41,7 +45,9 @@ enum-known-number : tie.Need-enum-known-number Inv-loop μ-loop
 enum-known-number c = search needs
 
 returns : tie.Need-returns Inv-loop μ-loop
-returns c = face-stops (c .before .before .before .before .before .before .before .args .numbers .now) _ (c .before .before .before .before .permutation-arg .given) (c .before .before .before .permutation .ensures) (c .before .before .before .before .before .before .loop .inv .1) (omega arith) (ap permutationMeaning (c .before .number .given .1))
+returns c =
+    let read = c .before .before .before in
+    face-stops (turn read .before .args .numbers .now) _ (read .before .permutation-arg .given) (read .permutation .ensures) (turn read .loop .inv .1) (omega arith) (ap permutationMeaning (c .before .number .given .1))
 
 enum-told : tie.Need-enum-told Inv-loop μ-loop
 enum-told c = search needs
@@ -53,7 +59,9 @@ loop-less : tie.Need-loop-less Inv-loop μ-loop
 loop-less c = omega arith
 
 loop-again : tie.Need-loop-again Inv-loop μ-loop
-loop-again c = (omega arith, face-on (c .before .before .before .before .before .before .args .numbers .now) _ (c .before .before .before .permutation-arg .given) (c .before .before .permutation .ensures) (c .before .before .before .before .before .loop .inv .1) (omega arith) (ap permutationMeaning (c .enum-told .given .1)))
+loop-again c =
+    let read = c .before .before in
+    (omega arith, face-on (turn read .before .args .numbers .now) _ (read .before .permutation-arg .given) (read .permutation .ensures) (turn read .loop .inv .1) (omega arith) (ap permutationMeaning (c .enum-told .given .1)))
 
 returns-2 : tie.Need-returns-2 Inv-loop μ-loop
 returns-2 c = ask-done 1 (badNumber (c .before .before .args .numbers .now)) _ _ 6 (c .before .loop .inv .1) (omega arith)

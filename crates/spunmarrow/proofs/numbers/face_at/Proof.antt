@@ -34,10 +34,14 @@ enum-told : tie.Need-enum-told
 enum-told c = search needs
 
 returns : tie.Need-returns
-returns c = face-is _ _ (c .before .before .before .before .permutation-arg .given) (c .before .before .before .permutation .ensures) (c .before .before .before .before .before .sign .given) (ap permutationMeaning (c .before .p .given .1))
+returns c =
+    let read = c .before .before .before in
+    face-is _ _ (read .before .permutation-arg .given) (read .permutation .ensures) (read .before .before .sign .given) (ap permutationMeaning (c .before .p .given .1))
 
 returns-2 : tie.Need-returns-2
-returns-2 c = face-none _ _ (c .before .before .before .permutation-arg .given) (c .before .before .permutation .ensures) (c .before .before .before .before .sign .given) (ap permutationMeaning (c .enum-told .given .1))
+returns-2 c =
+    let read = c .before .before in
+    face-none _ _ (read .before .permutation-arg .given) (read .permutation .ensures) (read .before .before .sign .given) (ap permutationMeaning (c .enum-told .given .1))
 
 pub face-at-spec : {M : Type 1} → statement M
 face-at-spec =

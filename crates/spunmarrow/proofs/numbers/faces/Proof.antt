@@ -24,7 +24,10 @@ face-at-requires-6 c κs = search needs
 
 returns : tie.Need-returns
 unfolding facesOf
-returns c = rw (c .before .before .before .before .before .face-at .ensures, c .before .before .before .before .face-at2 .ensures, c .before .before .before .face-at3 .ensures, c .before .before .face-at4 .ensures, c .before .face-at5 .ensures, c .face-at6 .ensures)
+returns c =
+    let d = c .before .before in
+    let a = d .before .before .before in
+    rw (a .face-at .ensures, d .before .before .face-at2 .ensures, d .before .face-at3 .ensures, d .face-at4 .ensures, c .before .face-at5 .ensures, c .face-at6 .ensures)
 
 pub faces-spec : {M : Type 1} → statement M
 faces-spec =

@@ -1,6 +1,6 @@
 -- `check_bounds` meets its contract: five checks, joined in their order.
 use borrow.Author.Needs.{needs}
-use Rattle.geometry.proofs.Answers.{asked-in-turn}
+use Rattle.geometry.proofs.Orders.{asked-in-turn}
 use Rattle.voxels.specs.Checks.{boundsChecks}
 use Rattle.voxels.proofs.bounds.check_bounds.Statement.{statement}
 use Rattle.voxels.proofs.bounds.check_bounds.Tie as tie

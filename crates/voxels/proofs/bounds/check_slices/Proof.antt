@@ -1,30 +1,29 @@
 -- `check_slices` meets its contract: the slices that are left decide as all do.
 use borrow.Author.Needs.{needs}
 use mathlib.Core.Path.{_≡_, sym, _∙_, ap}
-use Prim.Native.Nat.{_+_, _-_, _*_, _≤_}
-use native.Mathlib.Nat.{zero-mul}
+use Prim.Native.Nat.{_-_}
 use native.Mathlib.Omega.{arith}
 use Rattle.geometry.specs.Refusal.{checked}
-use Rattle.voxels.specs.Answers.{entryCheckMeaning}
-use Rattle.voxels.specs.Extent.{every}
-use Rattle.voxels.specs.Inner.{badAt, rows, slices}
+use Rattle.geometry.specs.Answers.{checkMeaning}
+use Rattle.voxels.specs.Loop.{every}
+use Rattle.voxels.specs.Rows.{badAt, rows, slices}
 use Rattle.voxels.proofs.Asked.{ask-start, ask-on, ask-stops, ask-done}
-use Rattle.voxels.proofs.Places.{next-at, below-last}
+use Rattle.voxels.proofs.Loops.{Underway, underway-start, underway-on, next-fits}
 use Rattle.voxels.proofs.bounds.check_slices.Statement.{statement}
 use Rattle.voxels.proofs.bounds.check_slices.Tie as tie
 
 abbrev Inv-loop : tie.InvT-loop
-Inv-loop voxels wide y-stride high deep step k₀ i₀ k i = (k ≤ deep) × (i ≡ i₀ + k * step) × (checked (every step i (deep - k) (rows (badAt voxels) wide (y-stride .0) high)) ≡ checked (slices (badAt voxels) wide (y-stride .0) high step deep i₀))
+Inv-loop voxels wide y-stride high deep step k₀ i₀ k i = Underway step i₀ deep k i × (checked (every step i (deep - k) (rows (badAt voxels) wide (y-stride .0) high)) ≡ checked (slices (badAt voxels) wide (y-stride .0) high step deep i₀))
 
 abbrev μ-loop : tie.MeasureT-loop
 μ-loop voxels wide y-stride high deep step k₀ i₀ k i = deep - k
 
 loop-holds : tie.Need-loop-holds Inv-loop μ-loop
 unfolding slices
-loop-holds c = let s = c .before .args in (search needs, omega (arith, zero-mul (s .z-stride .0)), ask-start (s .z-stride .0) (rows (badAt (s .voxels .now)) (s .wide) (s .y-stride .0) (s .high)) (s .start .0) (s .deep))
+loop-holds c = let s = c .before .args in (underway-start, ask-start (s .z-stride .0) (rows (badAt (s .voxels .now)) (s .wide) (s .y-stride .0) (s .high)) (s .start .0) (s .deep))
 
 check-rows-requires : tie.Need-check-rows-requires Inv-loop μ-loop
-check-rows-requires c κs = rw (c .before .loop .inv .1) (c .before .before .before .pre .each (c .before .loop .k) (c .loop-test .taken))
+check-rows-requires c κs = rw (c .before .loop .inv .0 .place) (c .before .before .before .pre .each (c .before .loop .k) (c .loop-test .taken))
 
 enum-known-number : tie.Need-enum-known-number Inv-loop μ-loop
 enum-known-number c = search needs
@@ -33,7 +32,7 @@ returns : tie.Need-returns Inv-loop μ-loop
 returns c =
     let s = c .before .before .before .before .before .before .before .args in
     let l = c .before .before .before .before .before .loop in
-    ask-stops (s .z-stride .0) (rows (badAt (s .voxels .now)) (s .wide) (s .y-stride .0) (s .high)) (l .i) (l .k) (s .deep) (l .inv .2) (c .before .before .before .before .loop-test .taken) (sym (c .before .before .before .check-rows .ensures) ∙ ap entryCheckMeaning (c .before .number .given .1))
+    ask-stops (s .z-stride .0) (rows (badAt (s .voxels .now)) (s .wide) (s .y-stride .0) (s .high)) (l .i) (l .k) (s .deep) (l .inv .1) (c .before .before .before .before .loop-test .taken) (sym (c .before .before .before .check-rows .ensures) ∙ ap checkMeaning (c .before .number .given .1))
 
 enum-told : tie.Need-enum-told Inv-loop μ-loop
 enum-told c = search needs
@@ -44,7 +43,7 @@ add-k c = search needs
 add-i : tie.Need-add-i Inv-loop μ-loop
 add-i c =
     let l = c .before .before .before .before .loop in
-    record { fits = omega (arith, below-last _ _ _ _ _ (c .before .before .before .loop-test .taken) (l .inv .1), c .before .before .before .before .before .before .pre .last) }
+    record { fits = omega (arith, next-fits (l .inv .0) (c .before .before .before .loop-test .taken) (c .before .before .before .before .before .before .pre .last)) }
 
 loop-less : tie.Need-loop-less Inv-loop μ-loop
 loop-less c = omega arith
@@ -53,13 +52,13 @@ loop-again : tie.Need-loop-again Inv-loop μ-loop
 loop-again c =
     let s = c .before .before .before .before .before .before .args in
     let l = c .before .before .before .before .loop in
-    (omega arith, next-at _ _ _ _ (l .inv .1), ask-on (s .z-stride .0) (rows (badAt (s .voxels .now)) (s .wide) (s .y-stride .0) (s .high)) (l .i) (l .k) (s .deep) (l .inv .2) (c .before .before .before .loop-test .taken) (sym (c .before .before .check-rows .ensures) ∙ ap entryCheckMeaning (c .enum-told .given .1)))
+    (underway-on (l .inv .0) (c .before .before .before .loop-test .taken), ask-on (s .z-stride .0) (rows (badAt (s .voxels .now)) (s .wide) (s .y-stride .0) (s .high)) (l .i) (l .k) (s .deep) (l .inv .1) (c .before .before .before .loop-test .taken) (sym (c .before .before .check-rows .ensures) ∙ ap checkMeaning (c .enum-told .given .1)))
 
 returns-2 : tie.Need-returns-2 Inv-loop μ-loop
 returns-2 c =
     let s = c .before .before .before .args in
     let l = c .before .loop in
-    ask-done (s .z-stride .0) (rows (badAt (s .voxels .now)) (s .wide) (s .y-stride .0) (s .high)) (l .i) (l .k) (s .deep) (l .inv .2) (omega arith)
+    ask-done (s .z-stride .0) (rows (badAt (s .voxels .now)) (s .wide) (s .y-stride .0) (s .high)) (l .i) (l .k) (s .deep) (l .inv .1) (omega arith)
 
 pub check-slices-spec : {M : Type 1} → statement M
 check-slices-spec =

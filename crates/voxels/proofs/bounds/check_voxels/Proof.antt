@@ -1,9 +1,9 @@
 -- `check_voxels` meets its contract: where 1 to 5 pass the box is held, and 8 is left.
 use borrow.Author.Needs.{needs}
 use mathlib.Core.Path.{sym, _∙_, ap}
-use Rattle.voxels.specs.Answers.{entryCheckMeaning}
+use Rattle.geometry.specs.Answers.{checkMeaning}
 use Rattle.voxels.proofs.Held.{bounds-held}
-use Rattle.voxels.proofs.Orders.{part-refuses, part-passes}
+use Rattle.geometry.proofs.Orders.{part-refuses, part-passes}
 use Rattle.voxels.proofs.bounds.check_voxels.Statement.{statement}
 use Rattle.voxels.proofs.bounds.check_voxels.Tie as tie
 
@@ -17,13 +17,13 @@ enum-told : tie.Need-enum-told
 enum-told c = search needs
 
 check-box-requires : tie.Need-check-box-requires
-check-box-requires c κs = bounds-held _ _ _ _ (sym (c .before .before .check-bounds .ensures) ∙ ap entryCheckMeaning (c .enum-told .given .1))
+check-box-requires c κs = bounds-held _ _ _ _ (sym (c .before .before .check-bounds .ensures) ∙ ap checkMeaning (c .enum-told .given .1))
 
 returns : tie.Need-returns
-returns c = part-refuses _ _ tt (sym (c .before .before .before .check-bounds .ensures) ∙ ap entryCheckMeaning (c .before .number .given .1))
+returns c = part-refuses _ _ tt (sym (c .before .before .before .check-bounds .ensures) ∙ ap checkMeaning (c .before .number .given .1))
 
 returns-2 : tie.Need-returns-2
-returns-2 c = part-passes _ _ tt (sym (c .before .before .before .check-bounds .ensures) ∙ ap entryCheckMeaning (c .before .enum-told .given .1)) (c .check-box .ensures)
+returns-2 c = part-passes _ _ tt (sym (c .before .before .before .check-bounds .ensures) ∙ ap checkMeaning (c .before .enum-told .given .1)) (c .check-box .ensures)
 
 pub check-voxels-spec : {M : Type 1} → statement M
 check-voxels-spec =

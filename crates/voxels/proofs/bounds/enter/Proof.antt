@@ -2,10 +2,11 @@
 use borrow.Author.Needs.{needs}
 use mathlib.Core.Path.{sym, _∙_, ap}
 use lib.ListN.{length}
-use Rattle.voxels.specs.Answers.{entryCheckMeaning}
+use Rattle.geometry.specs.Answers.{checkMeaning}
 use Rattle.voxels.specs.Checks.{boundsChecks, badVoxels}
 use Rattle.voxels.proofs.Held.{bounds-held}
-use Rattle.voxels.proofs.Orders.{whole-refuses, whole-passes, both-pass}
+use Rattle.geometry.proofs.Refusals.{whole-refuses, whole-passes}
+use Rattle.geometry.proofs.Orders.{both-pass}
 use Rattle.voxels.proofs.bounds.enter.Statement.{statement}
 use Rattle.voxels.proofs.bounds.enter.Tie as tie
 
@@ -25,16 +26,16 @@ enum-known-number : tie.Need-enum-known-number
 enum-known-number c = search needs
 
 returns-2 : tie.Need-returns-2
-returns-2 c = rw (c .before .before .before .before .enum-told .given .1) (whole-refuses _ _ (sym (c .before .before .before .check-voxels .ensures) ∙ ap entryCheckMeaning (c .before .number .given .1)))
+returns-2 c = rw (c .before .before .before .before .enum-told .given .1) (whole-refuses _ _ (sym (c .before .before .before .check-voxels .ensures) ∙ ap checkMeaning (c .before .number .given .1)))
 
 enum-told-2 : tie.Need-enum-told-2
 enum-told-2 c = search needs
 
 entered-requires : tie.Need-entered-requires
-entered-requires c κs = let s = c .before .before .before .before .before .before .args in bounds-held _ _ _ _ (both-pass (boundsChecks (length (s .voxels .now)) (s .voxels-shape) (s .min) (s .max)) (badVoxels (s .voxels .now) (s .voxels-shape) (s .min) (s .max)) (sym (c .before .before .check-voxels .ensures) ∙ ap entryCheckMeaning (c .enum-told2 .given .1)) .0)
+entered-requires c κs = let s = c .before .before .before .before .before .before .args in bounds-held _ _ _ _ (both-pass (boundsChecks (length (s .voxels .now)) (s .voxels-shape) (s .min) (s .max)) (badVoxels (s .voxels .now) (s .voxels-shape) (s .min) (s .max)) (sym (c .before .before .check-voxels .ensures) ∙ ap checkMeaning (c .enum-told2 .given .1)) .0)
 
 returns-3 : tie.Need-returns-3
-returns-3 c = rw (c .before .before .before .before .enum-told .given .1) (whole-passes _ _ (sym (c .before .before .before .check-voxels .ensures) ∙ ap entryCheckMeaning (c .before .enum-told2 .given .1)) (c .entered .ensures))
+returns-3 c = rw (c .before .before .before .before .enum-told .given .1) (whole-passes _ _ (sym (c .before .before .before .check-voxels .ensures) ∙ ap checkMeaning (c .before .enum-told2 .given .1)) (c .entered .ensures))
 
 pub enter-spec : {M : Type 1} → statement M
 enter-spec =

@@ -3,9 +3,8 @@ use borrow.Author.Needs.{needs}
 use mathlib.Core.List.{_++_}
 use mathlib.Core.Path.{_∙_}
 use lib.ListN.{length}
-use Rattle.geometry.proofs.Answers.{asked-in-turn}
 use Rattle.voxels.specs.Checks.{boundsChecks, badFaces, fewVisited, badVoxels}
-use Rattle.voxels.proofs.Orders.{asked-again, both-pass}
+use Rattle.geometry.proofs.Orders.{asked-in-turn, asked-again, both-pass}
 use Rattle.voxels.proofs.bounds.enter_greedy.Statement.{statement}
 use Rattle.voxels.proofs.bounds.enter_greedy.Tie as tie
 

@@ -4,10 +4,9 @@ use mathlib.Core.Path.{_≡_}
 use Prim.Native.Nat.{_-_, _≤_}
 use native.Mathlib.Nat.{add-sub-cancel-left}
 use native.Mathlib.Omega.{arith}
-use lib.ListN.{length}
 use Rattle.geometry.specs.Refusal.{checked}
-use Rattle.voxels.specs.Extent.{every}
-use Rattle.voxels.specs.Inner.{badAt, row}
+use Rattle.voxels.specs.Loop.{every}
+use Rattle.voxels.specs.Rows.{badAt, row}
 use Rattle.voxels.proofs.Asked.{ask-on, ask-stops, ask-done, good-here, bad-here}
 use Rattle.voxels.proofs.bounds.first_bad.Statement.{statement}
 use Rattle.voxels.proofs.bounds.first_bad.Tie as tie

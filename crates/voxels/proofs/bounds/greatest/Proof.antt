@@ -2,7 +2,7 @@
 use borrow.Author.Needs.{needs}
 use Prim.Native.Nat.{_-_, _≤_}
 use native.Mathlib.Omega.{arith}
-use Rattle.voxels.specs.Inner.{AtMost}
+use Rattle.voxels.specs.Rows.{AtMost}
 use Rattle.voxels.proofs.Rows.{most-on}
 use Rattle.voxels.proofs.bounds.greatest.Statement.{statement}
 use Rattle.voxels.proofs.bounds.greatest.Tie as tie

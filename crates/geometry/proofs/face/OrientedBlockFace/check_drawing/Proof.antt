@@ -2,7 +2,7 @@
 use borrow.Author.Needs.{needs}
 use mathlib.Core.List.{[], _∷_}
 use Rattle.geometry.specs.Checks.{badQuad, faceChecks}
-use Rattle.geometry.proofs.Answers.{asked-in-turn}
+use Rattle.geometry.proofs.Orders.{asked-in-turn}
 use Rattle.geometry.proofs.face.OrientedBlockFace.check_drawing.Statement.{statement}
 use Rattle.geometry.proofs.face.OrientedBlockFace.check_drawing.Tie as tie
 

@@ -34,7 +34,7 @@ unfolding newFace
 returns-2 c =
     let a = c .before .before .before .before .args in
     let f : OrientedBlockFace = record { «n_sign» = toZ w32 (ofZ w32 (a .n-sign)); permutation = a .permutation } in
-    number-given (faceChecks f) (c .before .before .before .check-sign .ensures) f (c .before .number .given .1)
+    number-given (faceChecks f) (c .before .before .before .check-sign .ensures) f (refl, tt) (c .before .number .given .1)
     ∙ ap (λ (s : ℤ). newFace s (a .permutation)) (toZ-ofZ (c .before .before .before .before .fits .n-sign))
 
 pub new-spec : {M : Type 1} → statement M

@@ -1,6 +1,7 @@
 -- `OrientedBlockFace::quad_corners` meets its contract: a quad that passed is one that `corners` takes.
 use borrow.Author.Needs.{needs}
 use mathlib.Core.List.{[]}
+use mathlib.Core.Path.{refl}
 use Rattle.geometry.specs.Checks.{quadChecks}
 use Rattle.geometry.specs.Corners.{quadCorners}
 use Rattle.geometry.proofs.Answers.{passed, value-given, number-given}
@@ -32,7 +33,7 @@ returns-2 : tie.Need-returns-2
 unfolding quadCorners
 returns-2 c =
     let a = c .before .before .before .before .args in
-    number-given (quadChecks (a .self) (a .quad)) (c .before .before .before .check-drawing .ensures) _ (c .before .number .given .1)
+    number-given (quadChecks (a .self) (a .quad)) (c .before .before .before .check-drawing .ensures) _ (refl, (refl, tt)) (c .before .number .given .1)
 
 pub quad-corners-spec : {M : Type 1} → statement M
 quad-corners-spec =

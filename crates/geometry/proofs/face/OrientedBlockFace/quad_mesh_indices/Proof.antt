@@ -1,6 +1,7 @@
 -- `OrientedBlockFace::quad_mesh_indices` meets its contract: a sign and a first index that passed are ones that the two functions below it take.
 use borrow.Author.Needs.{needs}
 use mathlib.Core.List.{[], _∷_}
+use mathlib.Core.Path.{refl}
 use Rattle.geometry.specs.Checks.{badStart, indexChecks}
 use Rattle.geometry.specs.Vertices.{quadIndices}
 use Rattle.geometry.proofs.Answers.{passed, value-given, number-given}
@@ -37,7 +38,7 @@ returns-2 : tie.Need-returns-2
 unfolding quadIndices
 returns-2 c =
     let a = c .before .before .before .before .args in
-    number-given (indexChecks (a .self) (a .start)) (c .before .before .before .check-indexing .ensures) _ (c .before .number .given .1)
+    number-given (indexChecks (a .self) (a .start)) (c .before .before .before .check-indexing .ensures) _ (refl, (refl, tt)) (c .before .number .given .1)
 
 pub quad-mesh-indices-spec : {M : Type 1} → statement M
 quad-mesh-indices-spec =

@@ -1,6 +1,7 @@
 -- `OrientedBlockFace::quad_mesh_normals` meets its contract: of a sign that passed, one normal stands at each corner.
 use borrow.Author.Needs.{needs}
 use mathlib.Core.List.{[]}
+use mathlib.Core.Path.{refl}
 use Rattle.geometry.specs.Checks.{faceChecks}
 use Rattle.geometry.specs.Face.{quadNormals}
 use Rattle.geometry.proofs.Answers.{passed, value-given, number-given}
@@ -32,7 +33,7 @@ returns-2 : tie.Need-returns-2
 unfolding quadNormals
 returns-2 c =
     let a = c .before .before .before .before .args in
-    number-given (faceChecks (a .self)) (c .before .before .before .check-sign .ensures) _ (c .before .number .given .1)
+    number-given (faceChecks (a .self)) (c .before .before .before .check-sign .ensures) _ (refl, tt) (c .before .number .given .1)
 
 pub quad-mesh-normals-spec : {M : Type 1} → statement M
 quad-mesh-normals-spec =

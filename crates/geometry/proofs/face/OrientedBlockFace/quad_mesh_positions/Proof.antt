@@ -1,6 +1,7 @@
 -- `OrientedBlockFace::quad_mesh_positions` meets its contract: a quad that passed is one that `positions` takes.
 use borrow.Author.Needs.{needs}
 use mathlib.Core.List.{[], _∷_}
+use mathlib.Core.Path.{refl}
 use Rattle.geometry.specs.Checks.{badSize, positionChecks}
 use Rattle.geometry.specs.Corners.{quadPositions}
 use Rattle.geometry.proofs.Answers.{passed, value-given, number-given}
@@ -32,7 +33,7 @@ returns-2 : tie.Need-returns-2
 unfolding quadPositions
 returns-2 c =
     let a = c .before .before .before .before .args in
-    number-given (positionChecks (a .self) (a .quad) (a .voxel-size)) (c .before .before .before .check-placing .ensures) _ (c .before .number .given .1)
+    number-given (positionChecks (a .self) (a .quad) (a .voxel-size)) (c .before .before .before .check-placing .ensures) _ (refl, (refl, (refl, tt))) (c .before .number .given .1)
 
 pub quad-mesh-positions-spec : {M : Type 1} → statement M
 quad-mesh-positions-spec =

@@ -1,5 +1,6 @@
 -- `OrientedBlockFace::signed_normal` meets its contract: the sign is checked, and `normal` gives the rule's.
 use borrow.Author.Needs.{needs}
+use mathlib.Core.Path.{refl}
 use Rattle.geometry.specs.Checks.{faceChecks}
 use Rattle.geometry.specs.Face.{signedNormal}
 use Rattle.geometry.proofs.Answers.{value-given, number-given}
@@ -28,7 +29,7 @@ returns-2 : tie.Need-returns-2
 unfolding signedNormal
 returns-2 c =
     let a = c .before .before .before .before .args in
-    number-given (faceChecks (a .self)) (c .before .before .before .check-sign .ensures) _ (c .before .number .given .1)
+    number-given (faceChecks (a .self)) (c .before .before .before .check-sign .ensures) _ (refl, tt) (c .before .number .given .1)
 
 pub signed-normal-spec : {M : Type 1} → statement M
 signed-normal-spec =

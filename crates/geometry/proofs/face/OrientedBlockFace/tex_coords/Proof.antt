@@ -1,6 +1,7 @@
 -- `OrientedBlockFace::tex_coords` meets its contract: a sign and a quad that passed are ones that the two functions below it take.
 use borrow.Author.Needs.{needs}
 use mathlib.Core.List.{[], _∷_}
+use mathlib.Core.Path.{refl}
 use native.Mathlib.Omega.{arith}
 use Rattle.geometry.specs.Checks.{badQuad, quadChecks}
 use Rattle.geometry.specs.Textures.{quadTextures}
@@ -39,7 +40,7 @@ returns-2 : tie.Need-returns-2
 unfolding quadTextures
 returns-2 c =
     let a = c .before .before .before .before .args in
-    number-given (quadChecks (a .self) (a .quad)) (c .before .before .before .check-drawing .ensures) _ (c .before .number .given .1)
+    number-given (quadChecks (a .self) (a .quad)) (c .before .before .before .check-drawing .ensures) _ (refl, (refl, tt)) (c .before .number .given .1)
 
 pub tex-coords-spec : {M : Type 1} → statement M
 tex-coords-spec =

@@ -1,7 +1,7 @@
 -- `FaceScan::new` meets its contract.
 use borrow.Author.Needs.{needs}
 use mathlib.Core.Path.{ap, _∙_}
-use Rattle.greedy.specs.Inner.{spanOf}
+use Rattle.greedy.specs.Spans.{spanOf}
 use Rattle.greedy.proofs.Faces.{scan-from}
 use Rattle.greedy.proofs.face_scan.FaceScan.new.Statement.{statement}
 use Rattle.greedy.proofs.face_scan.FaceScan.new.Tie as tie
@@ -36,8 +36,20 @@ faster-requires c κs = search needs
 new-requires-6 : tie.Need-new-requires-6
 new-requires-6 c κs = search needs
 
+-- Where the strides and the offset are known, from the end.
+abbrev strided : tie.After-new6 → tie.After-visibility-offset
+strided c = c .before .before .before .before .before .before
+
+abbrev named : tie.After-visibility-offset → tie.After-axes
+named c = c .before .before .before .before
+
 returns : tie.Need-returns
-returns c = let h = c .before .before .before .before .before .before .before .before .before .before .before .pre in scan-from (h .lent) _ _ (h .entered) _ _ _ _ _ _ _ _ _ (c .before .before .before .before .before .before .before .before .before .before .axes .ensures) (c .before .before .before .before .before .before .before .before .before .new .ensures) (c .before .before .before .before .before .before .before .before .new2 .ensures) (c .before .before .before .before .before .before .before .new3 .ensures) (c .before .before .before .before .before .before .visibility-offset .ensures) (c .before .before .before .before .new4 .ensures) (c .before .before .new5 .ensures ∙ ap (spanOf _ _) (c .before .before .before .slower .ensures)) (c .new6 .ensures ∙ ap (spanOf _ _) (c .before .faster .ensures))
+returns c =
+    let strides = strided c in
+    let axes = named strides in
+    let h = axes .before .pre in
+    scan-from (h .lent) _ _ (h .entered) _ _ _ _ _ _ _ _ _ (axes .axes .ensures) (strides .before .before .before .new .ensures) (strides .before .before .new2 .ensures) (strides .before .new3 .ensures) (strides .visibility-offset .ensures)
+    (c .before .before .before .before .new4 .ensures) (c .before .before .new5 .ensures ∙ ap (spanOf _ _) (c .before .before .before .slower .ensures)) (c .new6 .ensures ∙ ap (spanOf _ _) (c .before .faster .ensures))
 
 pub new-spec : {M : Type 1} → statement M
 new-spec =
