@@ -1,7 +1,5 @@
 // Which call a line makes.
-use crate::axes;
 use crate::checks;
-use crate::draw;
 use crate::mesh;
 use crate::show;
 use crate::text;
@@ -14,12 +12,6 @@ pub fn make(list: &[u8], line: usize) {
     let at = text::next(text::find(list, name, b' '));
     let letter = text::byte(list, name);
     match letter {
-        b'o' => axes::order(list, at),
-        b'f' => draw::face(list, at),
-        b'c' => draw::corners(list, at),
-        b'p' => draw::position(list, at),
-        b'i' => draw::indices(list, at),
-        b't' => draw::textures(list, at),
         b'v' => checks::seen(list, at),
         b'n' => checks::neighbor(list, at),
         b'b' => checks::checks(list, at),

@@ -5,7 +5,6 @@ use geometry::axis::Axis;
 use geometry::axis::AxisPermutation;
 use geometry::axis::PermutationAnswer;
 use geometry::face::OrientedBlockFace;
-use geometry::quad::UnorientedQuad;
 use geometry::vector::UVec3;
 
 // A face, and where the list goes on.
@@ -17,12 +16,6 @@ pub struct FaceGiven {
 // A point, and where the list goes on.
 pub struct PointGiven {
     pub point: UVec3,
-    pub next: usize,
-}
-
-// A quad, and where the list goes on.
-pub struct QuadGiven {
-    pub quad: UnorientedQuad,
     pub next: usize,
 }
 
@@ -38,15 +31,6 @@ pub fn signed(n: u32) -> i32 {
 // A voxel.
 pub fn voxel(n: u32) -> u16 {
     (n % 65536) as u16
-}
-
-// The f32 number of some bits. A NaN is one value here, whatever its bits.
-pub fn float(bits: u32) -> f32 {
-    let magnitude = bits % 2147483648;
-    if magnitude > 2139095040 {
-        return 0.0 / 0.0;
-    }
-    f32::from_bits(bits)
 }
 
 // An axis by its index.
@@ -95,21 +79,5 @@ pub fn point(list: &[u8], at: usize) -> PointGiven {
             z: z.value,
         },
         next: z.next,
-    }
-}
-
-// A quad: its minimum, width and height.
-pub fn quad(list: &[u8], at: usize) -> QuadGiven {
-    let p = point(list, at);
-    let minimum = p.point;
-    let width = text::number(list, p.next);
-    let height = text::number(list, width.next);
-    QuadGiven {
-        quad: UnorientedQuad {
-            minimum,
-            width: width.value,
-            height: height.value,
-        },
-        next: height.next,
     }
 }

@@ -1,10 +1,9 @@
-// Makes document 01's calls through the proved crates, and prints each with what comes out of it.
+// Makes document 01's calls of the meshers and their checks, through the proved crates, and prints each
+// with what comes out of it. Those of the drawing code are in crate drawing.
 // The calls are read from standard input: the file stdin beside src/. The file stdout has what must
 // come out, written from document 01; the gate compares. The form of both stands in their first lines.
-mod axes;
 mod call;
 mod checks;
-mod draw;
 mod given;
 mod mesh;
 mod show;

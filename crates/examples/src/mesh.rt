@@ -6,6 +6,8 @@ use geometry::axis::AxisPermutation;
 use geometry::face::OrientedBlockFace;
 use geometry::vector::UVec3;
 use listing::MeshAnswer;
+use voxels::bounds;
+use voxels::bounds::EntryAnswer;
 
 // What a mesher is given beside its buffers.
 struct Meshing {
@@ -51,6 +53,19 @@ fn what_is_meshed(list: &[u8], at: usize) -> Meshing {
     }
 }
 
+// What an entry answers: how many voxels the shape has, and where the interior starts and ends; or
+// a refusal and its place.
+fn entry(came: EntryAnswer) {
+    match came {
+        EntryAnswer::Entered(e) => {
+            show::number(e.size);
+            show::point(e.interior.minimum);
+            show::point(e.interior.bound);
+        }
+        EntryAnswer::Refused(n, place) => show::refusal(n, place),
+    }
+}
+
 // What a mesher answers: its refusal and place, and its six counts.
 fn answer(came: MeshAnswer) {
     show::refusal(came.refusal, came.place);
@@ -83,16 +98,25 @@ fn output(out: &[u32], numbers: usize) {
     }
 }
 
-// How many visited bytes are 0 before the first that is not.
+// How many visited bytes are 0, if they are the first ones and all others are 255 as before, and else
+// 4294967295.
 fn cleared(visited: &[u8]) -> u64 {
+    let mut zeros: usize = 0;
     let mut k: usize = 0;
     while k < visited.len() {
-        if visited[k] != 0 {
-            return k as u64;
-        }
+        let b = visited[k];
+        let before = k;
         k += 1;
+        if b == 0 {
+            if zeros != before {
+                return 4294967295;
+            }
+            zeros = k;
+        } else if b != 255 {
+            return 4294967295;
+        }
     }
-    k as u64
+    zeros as u64
 }
 
 // Fills a block: the list has places, each with the voxel that stands from there on. Answers where it
@@ -114,16 +138,20 @@ fn fill(list: &[u8], from: usize, voxels: &mut [u16]) -> usize {
     at
 }
 
-// Unit meshing: its answer and its output.
+// Unit meshing: check 6, its entry, its answer and its output.
 fn unit(m: Meshing, voxels: &[u16], out: &mut [u32]) {
     let faces = m.faces;
+    show::check(bounds::check_faces(faces));
+    entry(bounds::enter_unit(voxels, m.shape, m.min, m.max, faces));
     answer(simple::visible_block_faces(voxels, m.shape, m.min, m.max, faces, &mut *out));
     output(out, 3);
 }
 
-// Greedy meshing: its answer with the tests, how many visited bytes are 0, and its output.
+// Greedy meshing: its entry, its answer with the tests, how many visited bytes are 0, and its output.
 fn greedy(m: Meshing, voxels: &[u16], visited: &mut [u8], out: &mut [u32]) {
     let faces = m.faces;
+    let lent = visited.len();
+    entry(bounds::enter_greedy(voxels, m.shape, m.min, m.max, faces, lent));
     let came = greedy::greedy_quads(
         voxels,
         m.shape,

@@ -41,57 +41,33 @@ pub fn put_part(text: &[u8], from: usize, end: usize) {
     io::write_all(STDOUT_FILENO, &text[from..end]);
 }
 
-// What a byte is as a digit, 0 to 9 and a to f, or more.
-fn digit(b: u8) -> u32 {
-    if b >= b'a' {
-        return (b - 87) as u32;
-    }
-    if b > b'9' {
-        return 255;
-    }
-    if b < b'0' {
-        return 255;
-    }
-    (b - b'0') as u32
-}
-
-// A number with a digit more, in base 10 or 16, modulo 2 to the 32nd.
-fn more(value: u32, base: u32, d: u32) -> u32 {
-    let wide = value as u64;
-    let sum = if base == 10 {
-        wide * 10 + (d as u64)
-    } else {
-        wide * 16 + (d as u64)
-    };
+// A number with a digit more, modulo 2 to the 32nd.
+fn more(value: u32, digit: u8) -> u32 {
+    let sum = (value as u64) * 10 + (digit as u64);
     (sum % 4294967296) as u32
 }
 
 // The digits that stand at a place, as a number of 32 bits; 0 where there are none.
-fn digits(text: &[u8], from: usize, base: u32) -> Listed {
+fn digits(text: &[u8], from: usize) -> Listed {
     let mut value: u32 = 0;
     let mut i = from;
     while i < text.len() {
-        let d = digit(text[i]);
+        let digit = std::num::wrapping_sub_u8(text[i], b'0');
         i += 1;
-        if d >= base {
+        if digit > 9 {
             return Listed { value, next: i };
         }
-        value = more(value, base, d);
+        value = more(value, digit);
     }
     Listed { value, next: i }
 }
 
-// The number that stands at a place: with a minus it is that much less than 2 to the 32nd, and after
-// an x its digits are of base 16.
+// The number that stands at a place: with a minus it is that much less than 2 to the 32nd.
 pub fn number(text: &[u8], at: usize) -> Listed {
-    let first = byte(text, at);
-    if first == b'x' {
-        return digits(text, next(at), 16);
+    if byte(text, at) != b'-' {
+        return digits(text, at);
     }
-    if first != b'-' {
-        return digits(text, at, 10);
-    }
-    let mut n = digits(text, next(at), 10);
+    let mut n = digits(text, next(at));
     n.value = std::num::wrapping_sub_u32(0, n.value);
     n
 }

@@ -7,19 +7,19 @@ use Rattle.examples.proofs.text.digits.Statement.{statement}
 use Rattle.examples.proofs.text.digits.Tie as tie
 
 abbrev Inv-loop : tie.InvT-loop
-Inv-loop text from base value₀ i₀ value i = Unit {0}
+Inv-loop text from value₀ i₀ value i = Unit {0}
 
 abbrev μ-loop : tie.MeasureT-loop
-μ-loop text from base value₀ i₀ value i = length text - i
+μ-loop text from value₀ i₀ value i = length text - i
 
 loop-holds : tie.Need-loop-holds Inv-loop μ-loop
 loop-holds c = search needs
 
-shared-slice-read-digit : tie.Need-shared-slice-read-digit Inv-loop μ-loop
-shared-slice-read-digit c = search needs
+shared-slice-read-wrapping-sub-u8 : tie.Need-shared-slice-read-wrapping-sub-u8 Inv-loop μ-loop
+shared-slice-read-wrapping-sub-u8 c = search needs
 
-digit-requires : tie.Need-digit-requires Inv-loop μ-loop
-digit-requires c κs = search needs
+wrapping-sub-u8-requires : tie.Need-wrapping-sub-u8-requires Inv-loop μ-loop
+wrapping-sub-u8-requires c κs = search needs
 
 add-i : tie.Need-add-i Inv-loop μ-loop
 add-i c = search needs
@@ -46,8 +46,8 @@ digits-spec =
     Inv-loop
     μ-loop
     loop-holds
-    shared-slice-read-digit
-    digit-requires
+    shared-slice-read-wrapping-sub-u8
+    wrapping-sub-u8-requires
     add-i
     returns
     more-requires

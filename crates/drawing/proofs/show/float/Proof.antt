@@ -4,8 +4,8 @@ use lib.Dec.{T}
 use lib.Ieee.{Float, nan, inf, fin, isNan, eq, ne}
 use mathlib.Core.Bool.{false, not}
 use mathlib.Core.Path.{_≡_, subst}
-use Rattle.examples.proofs.show.float.Statement.{statement}
-use Rattle.examples.proofs.show.float.Tie as tie
+use Rattle.drawing.proofs.show.float.Statement.{statement}
+use Rattle.drawing.proofs.show.float.Tie as tie
 
 no-nan : (x : Float) → ne x x ≡ false → T (not (isNan x))
 unfolding isNan eq ne

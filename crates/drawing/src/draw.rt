@@ -13,6 +13,8 @@ use geometry::face::PositionsAnswer;
 use geometry::face::SignedNormalAnswer;
 use geometry::face::TexCoordsAnswer;
 use geometry::face::VertexIndex;
+use geometry::quad::UnorientedQuad;
+use geometry::quad::UnorientedUnitQuad;
 
 // A face's normals at a quad's four corners.
 fn normals(came: NormalsAnswer) {
@@ -53,6 +55,16 @@ pub fn face(list: &[u8], at: usize) {
     show::check(f.check_sign());
     normal(f.signed_normal());
     normals(f.quad_mesh_normals());
+}
+
+// The point of a unit quad: the quad that it is.
+pub fn unit_quad(list: &[u8], at: usize) {
+    let given = given::point(list, at);
+    let minimum = given.point;
+    let q = UnorientedQuad::from(UnorientedUnitQuad { minimum });
+    show::point(q.minimum);
+    show::more(q.width);
+    show::more(q.height);
 }
 
 // A face and a quad: check 12 by itself. Then the four corners.

@@ -4,8 +4,8 @@ use native.Mathlib.Omega.{arith}
 use Prim.Native.Nat.{_%_}
 use lib.Arith.{le→nltb}
 use lib.Ieee.Bits.{nanBits-above}
-use Rattle.examples.proofs.given.float.Statement.{statement}
-use Rattle.examples.proofs.given.float.Tie as tie
+use Rattle.drawing.proofs.given.float.Statement.{statement}
+use Rattle.drawing.proofs.given.float.Tie as tie
 
 returns : tie.Need-returns
 returns c = search needs
