@@ -38,6 +38,7 @@ static void drawing(void)
     static const float pairs[8] = {4, 0, 0, 0, 4, 5, 0, 5}, down[3] = {0, -1, 0}, place[3] = {0.5f, 1.5f, 0.75f}, asis[8] = {9, 9, 9, 9, 9, 9, 9, 9};
     static const uint32_t front[6] = {7, 8, 9, 8, 10, 9}, back[6] = {7, 9, 8, 8, 9, 10}, untouched[12] = {9, 9, 9, 9, 9, 9, 9, 9, 9, 9, 9, 9};
     static const uint32_t thin[5] = {1, 2, 3, 0, 5};
+    static const uint32_t nans[8] = {0x7fc00000, 0x7f800001, 0xffc00000, 0xff800001, 0x7fffffff, 0xffffffff, 0x7fa12345, 0xffedcba9};
     uint32_t u[12];
     float f[8];
 
@@ -83,6 +84,13 @@ static void drawing(void)
     number("tex_coords, sign 0", spunmarrow_tex_coords(0, 0, 2, true, thin, f), 6);
     number("tex_coords, width 0", spunmarrow_tex_coords(1, 0, 2, true, thin, f), 12);
     same("what refused calls leave of floats", f, asis, sizeof asis);
+    /* a NaN's bits, quiet or signalling, are not proved to stay */
+    memcpy(f, nans, sizeof f);
+    number("corner, size NaN, over NaNs", spunmarrow_corner(1, 5, quad, 3, NAN, f), 14);
+    number("normal, sign 0, over NaNs", spunmarrow_normal(0, 0, f), 6);
+    number("tex_coords, width 0, over NaNs", spunmarrow_tex_coords(1, 0, 2, true, thin, f), 12);
+    number("corner, permutation 6, over NaNs", spunmarrow_corner(0, 6, thin, 0, NAN, f), 17);
+    same("what refused calls leave of NaNs", f, nans, sizeof nans);
     same("what refused calls leave of numbers", u, untouched, sizeof untouched);
 }
 

@@ -1,32 +1,48 @@
 /* Spunmarrow: quads from blocks of voxels. The C interface.
  *
- * Link with libspunmarrow.a, which `rt staticlib spunmarrow` writes to target/staticlib/, on x86-64 Linux: cc -Iinclude FILE.c target/staticlib/libspunmarrow.a. Plain C99; C++17 takes it as well.
- * host/mesh_file.c is a program to copy.
+ * Link with libspunmarrow.a, which `rt staticlib spunmarrow` writes to target/staticlib/, on x86-64 Linux:
+ *     cc -Iinclude FILE.c target/staticlib/libspunmarrow.a
+ * Plain C99; C++17 takes it as well. host/mesh_file.c is a program to copy. The archive needs memset of the C library
+ * and nothing else, and any x86-64 processor will do: it has no instruction past SSE2.
  *
- * WHAT THE CALLER GUARANTEES. What each function answers and leaves in each buffer is proved, for every value of every number that it is handed. A proof can't see
- * through a pointer, so this is left to the caller:
+ * WHAT THE CALLER GUARANTEES. What each function answers and leaves in each buffer is proved, for every value of every
+ * number that it is handed. A proof can't see through a pointer, so this is left to the caller:
  *   - A pointer to an array of fixed length points to that many numbers, aligned as its type asks, and is never NULL.
- *   - A pointer beside a length points to at least that many numbers, aligned as its type asks. With a length of 0 any pointer will do, NULL as well: nothing is read or written through it.
- *   - What is read (const) may be written by nobody during the call, and what is written may be read or written by nobody else. No buffer that a call writes overlaps another
- *     buffer of that call. Buffers that are only read may overlap each other.
+ *   - A pointer beside a length points to at least that many numbers, aligned as its type asks. With a length of 0 any
+ *     pointer will do, NULL as well: nothing is read or written through it.
+ *   - What is read (const) may be written by nobody during the call, and what is written may be read or written by
+ *     nobody else. No buffer that a call writes overlaps another buffer of that call. Buffers that are only read may
+ *     overlap each other.
  *   - A bool is true or false: 0 or 1 and no other bits.
- *   - The processor's floating-point mode is the default: round to nearest, subnormals kept (a program built with -ffast-math may have changed it). spunmarrow_corner rests on it.
- * Given that, any numbers at all may be handed in. Nothing is read or written but what the buffers have, nothing is allocated, nothing is kept from call to call, and every
- * call ends. Calls from several threads at once are fine where their buffers are apart.
+ *   - The processor's floating-point mode is the default: round to nearest, subnormals kept (a program built with
+ *     -ffast-math may have changed it), exceptions masked. spunmarrow_corner rests on it. The drawing calls may raise
+ *     exception flags, and clear none.
+ *   - There is stack for the call. The most that was measured is 1,099 bytes, of greedy meshing, with its arguments and
+ *     memset's part among them (host/stack.c); 2 KB are ample.
+ * Given that, any numbers at all may be handed in. Nothing is read or written but what the buffers have, nothing is
+ * allocated, nothing is kept from call to call, and every call ends. Calls from several threads at once are fine where
+ * their buffers are apart.
  *
- * REFUSALS. A call that can't do what it is asked says so by a number, SPUNMARROW_REFUSED_.. below. The checks are made in the order that each function lists; the first that
- * applies is given. What a refusal leaves of each buffer is written at each function.
+ * REFUSALS. A call that can't do what it is asked says so by a number, SPUNMARROW_REFUSED_.. below. The checks are made
+ * in the order that each function lists; the first that applies is given. What a refusal leaves of each buffer is
+ * written at each function.
  *
- * A FACE is two numbers. Its sign is 1 or -1: the side of its normal axis n that it looks to. Its permutation's number says which axes are n, u and v:
+ * POINTS. Shape, min and max are three numbers each, in the order x, y, z.
+ *
+ * A FACE is two numbers. Its sign is 1 or -1: the side of its normal axis n that it looks to. Its permutation's number
+ * says which axes are n, u and v:
  *     0 Xyz   1 Zxy   2 Yzx   3 Zyx   4 Xzy   5 Yxz     (the letters are n, u, v in that order)
- * The faces of a cube, each with the permutation of the Rust's `OrientedBlockFace::canonical`: +X and -X are 1 and -1 with 0, +Y and -Y with 2, +Z and -Z with 1. As a mesher's
- * `faces`, in this order: {1, 0, -1, 0, 1, 2, -1, 2, 1, 1, -1, 1}.
+ * The faces of a cube, each with the permutation of the Rust's `OrientedBlockFace::canonical`: +X and -X are 1 and -1
+ * with 0, +Y and -Y with 2, +Z and -Z with 1. As a mesher's `faces`, in this order:
+ * {1, 0, -1, 0, 1, 2, -1, 2, 1, 1, -1, 1}.
  *
- * A QUAD is five numbers: the x, y and z of its least voxel, its width (voxels along u) and its height (voxels along v). Quad limits: x, y and z at most 255, width and
- * height at least 1, and neither the minimum plus the width on u nor the minimum plus the height on v above 256.
+ * A QUAD is five numbers: the x, y and z of its least voxel, its width (voxels along u) and its height (voxels along
+ * v). Quad limits: x, y and z at most 255, width and height at least 1, and neither the minimum plus the width on u
+ * nor the minimum plus the height on v above 256.
  *
- * A VOXEL is 16 bits. The top two are its class: 0 empty, 1 translucent, 2 opaque; 3 is bad. The other fourteen are its merge value: greedy quads span voxels of one
- * merge value. So an opaque voxel of merge value 7 is 2 * 16384 + 7. The voxel (x, y, z) of a block of X by Y by Z has the index x + X*y + X*Y*z.
+ * A VOXEL is 16 bits. The top two are its class: 0 empty, 1 translucent, 2 opaque; 3 is bad. The other fourteen are its
+ * merge value: greedy quads span voxels of one merge value. So an opaque voxel of merge value 7 is 2 * 16384 + 7. The
+ * voxel (x, y, z) of a block of X by Y by Z has the index x + X*y + X*Y*z.
  */
 #ifndef SPUNMARROW_H
 #define SPUNMARROW_H
@@ -39,14 +55,14 @@
 extern "C" {
 #endif
 
-/* How many numbers each listed quad has in `out`: a greedy quad, and a unit quad (which is one voxel: its x, y and z). */
+/* How many numbers each listed quad has in `out`: a greedy quad, and a unit quad (which is one voxel: its x, y, z). */
 #define SPUNMARROW_GREEDY_QUAD_NUMBERS 5
 #define SPUNMARROW_UNIT_QUAD_NUMBERS 3
 
 /* The largest axis of a shape. */
 #define SPUNMARROW_LARGEST_AXIS 256
 
-/* How many faces a mesher takes, and how many numbers they are: for each face its sign and its permutation's number. */
+/* How many faces a mesher takes, and how many numbers they are: for each its sign and its permutation's number. */
 #define SPUNMARROW_FACES 6
 #define SPUNMARROW_FACE_NUMBERS 12
 
@@ -54,79 +70,95 @@ extern "C" {
 #define SPUNMARROW_ANSWER_NUMBERS 9
 #define SPUNMARROW_ANSWER_REFUSAL 0 /* the refusal, or SPUNMARROW_ACCEPTED */
 #define SPUNMARROW_ANSWER_PLACE 1   /* where: see each refusal; 0 where the call is accepted */
-#define SPUNMARROW_ANSWER_COUNTS 2  /* six numbers: how many quads each face's group has; all 0 where the call is refused */
-#define SPUNMARROW_ANSWER_TESTS 8   /* greedy meshing: the voxel tests, over all faces; 0 for unit meshing and where the call is refused */
+#define SPUNMARROW_ANSWER_COUNTS 2  /* six numbers: how many quads each face's group has; all 0 after a refusal */
+#define SPUNMARROW_ANSWER_TESTS 8   /* greedy meshing: the voxel tests, over all faces; else, and after a refusal, 0 */
 
-/* All refusal numbers: when each is given; the place. A mesher's answer has the place, and the drawing calls, where it is always 0, tell none. 10 and 11 are of signed axes, which no
- * call here makes. */
+/* All refusal numbers: when each is given; the place. A mesher's answer has the place, and the drawing calls, where
+ * it is always 0, tell none. An axis as place is 0, 1, 2 for x, y, z, and a face 0 to 5. 10 and 11 are of signed
+ * axes, which no call here makes. */
 #define SPUNMARROW_ACCEPTED 0
-#define SPUNMARROW_REFUSED_SHAPE 1          /* an axis of the shape is 0 or above 256; the first such axis (0, 1, 2 for x, y, z) */
+#define SPUNMARROW_REFUSED_SHAPE 1          /* an axis of the shape is 0 or above 256; the first such axis */
 #define SPUNMARROW_REFUSED_FEW_VOXELS 2     /* fewer voxels lent than X*Y*Z; 0 */
 #define SPUNMARROW_REFUSED_MIN_ABOVE_MAX 3  /* min is above max on an axis; the first such axis */
 #define SPUNMARROW_REFUSED_MAX_PAST_SHAPE 4 /* max is at or past the shape on an axis; the first such axis */
 #define SPUNMARROW_REFUSED_MIN_IS_MAX 5     /* min equals max on an axis; the first such axis */
-#define SPUNMARROW_REFUSED_FACE_SIGN 6      /* a face's sign is neither 1 nor -1; of a mesher the first such face, 0 to 5 */
+#define SPUNMARROW_REFUSED_FACE_SIGN 6      /* a face's sign is neither 1 nor -1; of a mesher the first such face */
 #define SPUNMARROW_REFUSED_FEW_VISITED 7    /* greedy meshing: fewer visited bytes lent than X*Y*Z; 0 */
 #define SPUNMARROW_REFUSED_BAD_VOXEL 8      /* a voxel of class 3 inside the box; its index, the lowest of them */
 #define SPUNMARROW_REFUSED_MANY_QUADS 9     /* more quads than the output holds; how many it holds */
 #define SPUNMARROW_REFUSED_QUAD_LIMITS 12   /* a quad outside the quad limits; 0 */
 #define SPUNMARROW_REFUSED_FIRST_INDEX 13   /* a first index above 4,294,967,292; 0 */
 #define SPUNMARROW_REFUSED_VOXEL_SIZE 14    /* a voxel size that is NaN or infinite; 0 */
-#define SPUNMARROW_REFUSED_NUMBER 17        /* a permutation's number outside 0 to 5, a corner's outside 0 to 3, or an axis' outside 0 to 2; of a mesher the first such face, 0 to 5 */
+#define SPUNMARROW_REFUSED_NUMBER 17        /* a permutation's number outside 0 to 5, a corner's outside 0 to 3, or an
+                                             * axis' outside 0 to 2; of a mesher the first such face */
 
 /* ---- meshing ----
  *
- * Both meshers look at the box from min to max, max included, of a block of the shape X by Y by Z, and mesh its interior: one voxel in from each side of the box. (So a block
- * is lent with a border of its neighbours.) An axis on which the box spans two voxels has no interior: the call is accepted and lists nothing.
+ * Both meshers look at the box from min to max, max included, of a block of the shape X by Y by Z, and mesh its
+ * interior: one voxel in from each side of the box. (So a block is lent with a border of its neighbours.) An axis on
+ * which the box spans two voxels has no interior: the call is accepted and lists nothing.
  *
- * A voxel's face is visible when the voxel isn't empty and the neighbour that the face looks to is empty, or is translucent while the voxel is opaque.
+ * A voxel's face is visible when the voxel isn't empty and the neighbour that the face looks to is empty, or is
+ * translucent while the voxel is opaque.
  *
- * `out` gets six groups of quads, a group for each face in the order given, end to end from the start. answer[SPUNMARROW_ANSWER_COUNTS + k] is how many quads group k has. `out`
- * holds out_len / SPUNMARROW_.._QUAD_NUMBERS quads, rounded down; the rest of its length is never written.
+ * `out` gets six groups of quads, a group for each face in the order given, end to end from the start.
+ * answer[SPUNMARROW_ANSWER_COUNTS + k] is how many quads group k has. `out` holds
+ * out_len / SPUNMARROW_.._QUAD_NUMBERS quads, rounded down; the rest of its length is never written. Six quads an
+ * interior voxel are always room enough: an out_len of 30 * the interior voxels for greedy meshing, and of 18 * for
+ * unit meshing.
  *
  * All nine numbers of `answer` are written, whatever happens; what they held before is not read.
  */
 
 /* Greedy meshing: the visible faces as rectangles, five numbers each.
  *
- * Every visible face in the interior lies in exactly one quad of its face's group, and no other voxel lies in any. The slices go from low n to high n, and in a slice the voxels are tested in
- * scan order, x fastest, then y, then z: a voxel passes if it isn't empty, no quad of the group has it yet, and its face is visible. From one that passes a quad grows: along +u while the
- * voxels pass and have its merge value, then along +v by whole rows of that width, to the edge of the interior. The quads of a group stand in the order in which they are found. Class is not compared:
- * an opaque and a translucent voxel of one merge value may share a quad. A test is one voxel looked at, the failing one of a row included; a voxel may be tested more than once.
- * Six times the interior voxels are always room enough for the quads.
+ * Every visible face in the interior lies in exactly one quad of its face's group, and no other voxel lies in any.
+ * The slices go from low n to high n, and in a slice the voxels are tested in scan order, x fastest, then y, then z:
+ * a voxel passes if it isn't empty, no quad of the group has it yet, and its face is visible. From one that passes a
+ * quad grows: along +u while the voxels pass and have its merge value, then along +v by whole rows of that width, to
+ * the edge of the interior. The quads of a group stand in the order in which they are found. Class is not compared:
+ * an opaque and a translucent voxel of one merge value may share a quad. A test is one voxel looked at, the failing
+ * one of a row included; a voxel may be tested more than once.
  *
  * Refuses by 17, then 1, 2, 3, 4, 5, 6, 7, 8, then 9.
  *   After 17 and 1 to 8  `out` and `visited` are as they were.
- *   After 9              `out` holds the first quads of the listing, as many as it holds, and nothing past them has changed; the first X*Y*Z bytes of `visited` are 0 and the
- *                        others as they were.
+ *   After 9              `out` holds the first quads of the listing, as many as it holds, and nothing past them has
+ *                        changed; the first X*Y*Z bytes of `visited` are 0 and the others as they were.
  *   Accepted             nothing of `out` past the last quad has changed; `visited` as after 9.
  * `visited` is scratch space: what it holds before the call doesn't matter, and X*Y*Z bytes of it are used.
  */
-void spunmarrow_greedy_quads(const uint32_t shape[3], const uint32_t min[3], const uint32_t max[3], const int32_t faces[12],
-                             const uint16_t *voxels, size_t voxels_len, uint8_t *visited, size_t visited_len,
-                             uint32_t *out, size_t out_len, uint64_t answer[9]);
+void spunmarrow_greedy_quads(const uint32_t shape[3], const uint32_t min[3], const uint32_t max[3],
+                             const int32_t faces[12], const uint16_t *voxels, size_t voxels_len, uint8_t *visited,
+                             size_t visited_len, uint32_t *out, size_t out_len, uint64_t answer[9]);
 
-/* Unit meshing: every visible face by itself, three numbers each: the voxel's x, y and z. A group is in scan order, x fastest, then y, then z. To draw one, width and height are 1.
- * Six times the interior voxels are always room enough.
+/* Unit meshing: every visible face by itself, three numbers each: the voxel's x, y and z. A group is in scan order, x
+ * fastest, then y, then z. To draw one, width and height are 1.
  *
  * Refuses by 17, then 1, 2, 3, 4, 5, 6, 8, then 9.
  *   After 17, 1 to 6, 8  `out` is as it was.
- *   After 9              `out` holds the first quads of the listing, as many as it holds, and nothing past them has changed.
+ *   After 9              `out` holds the first quads of the listing, as many as it holds, and nothing past them has
+ *                        changed.
  *   Accepted             nothing of `out` past the last quad has changed.
  */
-void spunmarrow_visible_block_faces(const uint32_t shape[3], const uint32_t min[3], const uint32_t max[3], const int32_t faces[12],
-                                    const uint16_t *voxels, size_t voxels_len, uint32_t *out, size_t out_len, uint64_t answer[9]);
+void spunmarrow_visible_block_faces(const uint32_t shape[3], const uint32_t min[3], const uint32_t max[3],
+                                    const int32_t faces[12], const uint16_t *voxels, size_t voxels_len, uint32_t *out,
+                                    size_t out_len, uint64_t answer[9]);
 
 /* ---- drawing ----
  *
- * Each call answers the refusal number, and `out` is then as it was; or SPUNMARROW_ACCEPTED, and all of `out` is written.
+ * Each call answers the refusal number, and `out` is then as it was; or SPUNMARROW_ACCEPTED, and all of `out` is
+ * written. (Of a float in `out` that was NaN it is proved that it is NaN still; that its bits are the same is seen in
+ * a run, host/check.c, and not proved.)
  *
- * The corners of a quad have the numbers 0 to 3: the base, +u width, +v height, both. The base is the quad's minimum, one step up along n where the sign is 1.
+ * The corners of a quad have the numbers 0 to 3: the base, +u width, +v height, both. The base is the quad's minimum,
+ * one step up along n where the sign is 1.
  */
 
-/* Where one corner of a quad is drawn: x, y and z. Each is one product of voxel_size and the corner's coordinate, rounded once as IEEE 754 says; it may be infinite and is
- * never NaN. Refuses by 17 (permutation, corner), then 6, 12, 14. */
-uint32_t spunmarrow_corner(int32_t sign, uint32_t permutation, const uint32_t quad[5], uint32_t corner, float voxel_size, float out[3]);
+/* Where one corner of a quad is drawn: x, y and z. Each is one product of voxel_size and the corner's coordinate,
+ * rounded once as IEEE 754 says; it may be infinite and is never NaN. Refuses by 17 (permutation, corner), then 6,
+ * 12, 14. */
+uint32_t spunmarrow_corner(int32_t sign, uint32_t permutation, const uint32_t quad[5], uint32_t corner,
+                           float voxel_size, float out[3]);
 
 /* The four corners of a quad in voxels: x, y and z of corner 0, then of 1, 2 and 3. Refuses by 17, then 6, 12. */
 uint32_t spunmarrow_corners(int32_t sign, uint32_t permutation, const uint32_t quad[5], uint32_t out[12]);
@@ -134,14 +166,17 @@ uint32_t spunmarrow_corners(int32_t sign, uint32_t permutation, const uint32_t q
 /* The normal of a face: one of x, y and z is 1 or -1, and the others are plus zero. Refuses by 17, then 6. */
 uint32_t spunmarrow_normal(int32_t sign, uint32_t permutation, float out[3]);
 
-/* The vertex numbers of a quad's two triangles, where corner k has the number start + k; the next quad's first vertex is then start + 4. In right-handed axes both triangles
- * run counterclockwise as seen from the side that the face looks to. Refuses by 17, then 6, 13. */
+/* The vertex numbers of a quad's two triangles, where corner k has the number start + k; the next quad's first vertex
+ * is then start + 4. In right-handed axes both triangles run counterclockwise as seen from the side that the face
+ * looks to. Refuses by 17, then 6, 13. */
 uint32_t spunmarrow_indices(int32_t sign, uint32_t permutation, uint32_t start, uint32_t out[6]);
 
-/* The texture pairs of a quad's four corners, u and v of corner 0, then of 1, 2 and 3, for a texture that repeats at each voxel: (0,0), (w,0), (0,h), (w,h). flip_v swaps 0
- * and h. 0 and w are swapped on a face of sign -1 whose normal axis isn't u_flip_axis (0, 1, 2 for x, y, z), and on one of sign 1 whose normal axis is. Refuses by 17
+/* The texture pairs of a quad's four corners, u and v of corner 0, then of 1, 2 and 3, for a texture that repeats at
+ * each voxel: (0,0), (w,0), (0,h), (w,h). flip_v swaps 0 and h. 0 and w are swapped on a face of sign -1 whose normal
+ * axis isn't u_flip_axis (0, 1, 2 for x, y, z), and on one of sign 1 whose normal axis is. Refuses by 17
  * (permutation, axis), then 6, 12. */
-uint32_t spunmarrow_tex_coords(int32_t sign, uint32_t permutation, uint32_t u_flip_axis, bool flip_v, const uint32_t quad[5], float out[8]);
+uint32_t spunmarrow_tex_coords(int32_t sign, uint32_t permutation, uint32_t u_flip_axis, bool flip_v,
+                               const uint32_t quad[5], float out[8]);
 
 #ifdef __cplusplus
 }

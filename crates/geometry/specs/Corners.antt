@@ -45,7 +45,8 @@ quadCorners f q = answer (quadChecks f q) (corners f q)
 -- ---- positions
 
 -- "one f32 product of the voxel size and the corner's coordinate, rounded once, as IEEE 754 says; infinity may result" (face.rs 83 to 86). The
--- coordinate of a quad that passes is cast exactly, so the product's is the one rounding; and no position that is given has a NaN (proofs/Accepted.antt, `accepted-position`).
+-- coordinate of a quad that passes is cast exactly, so the product's is the one rounding; and no position that is given has a NaN (proofs/Accepted.antt,
+-- `accepted-position` and `accepted-positions`).
 abbrev pub product : Float → ℕ → Float
 product size c = mul binary32 size (asF32 (pos c))
 

@@ -4,11 +4,12 @@ use mathlib.Core.Bool.{Bool, true, false}
 use mathlib.Core.Path.{_≡_}
 use Prim.Native.Nat.{_≤_}
 use lib.IntN.{_*ℤ_}
-use lib.Ieee.{Float}
+use lib.Ieee.{Float, isNan}
 use Rattle.geometry.specs.declared.axis.Axis.{Axis}
 use Rattle.geometry.specs.declared.quad.UnorientedQuad.{UnorientedQuad}
 use Rattle.geometry.specs.declared.face.OrientedBlockFace.{OrientedBlockFace}
 use Rattle.geometry.specs.declared.face.Corner.{Corner}
+use Rattle.geometry.specs.declared.face.Position.{Position}
 use Rattle.geometry.specs.declared.face.VertexIndex.{VertexIndex}
 use Rattle.geometry.specs.Refusal.{accepted}
 use Rattle.geometry.specs.Point.{Point}
@@ -23,6 +24,10 @@ use Rattle.geometry.specs.Textures.{flipsU, pairs, quadTextures}
 -- The unit quad of a voxel, as a quad.
 abbrev pub unitQuadAt : Point → UnorientedQuad
 unitQuadAt p = quadOfUnit (record { minimum = p })
+
+-- No part of a position is NaN. Then its bits are fixed, since every other number has bits of its own.
+abbrev pub NoNan : Position → Type 0
+NoNan p = (isNan (p .x) ≡ false) × (isNan (p .y) ≡ false) × (isNan (p .z) ≡ false)
 
 -- A quad on a face can be drawn: its corners, texture pairs, positions, normals and indices are given and not refused, and each answer is the value that document 01 gives.
 pub record Drawn (f : OrientedBlockFace) (q : UnorientedQuad) : Type 0 where
