@@ -20,7 +20,7 @@ set-after [] r x rest = refl
 set-after (d ∷ done) r x rest = ap (λ (l : List ℕ). d ∷ l) (set-after done r x rest)
 
 -- A list set from there on overwrites what follows.
-set-all-after : (xs done rest : List ℕ) → length xs ≤ length rest → setAll (done ++ rest) (length done) xs ≡ done ++ overwritten xs rest
+pub set-all-after : (xs done rest : List ℕ) → length xs ≤ length rest → setAll (done ++ rest) (length done) xs ≡ done ++ overwritten xs rest
 unfolding overwritten setAll
 set-all-after [] done rest h = refl
 set-all-after (x ∷ xs) done [] h = absurd (not-suc-le-zero h)
