@@ -1,0 +1,77 @@
+-- `spell` meets its contract. Its loop writes the digits from the last to the first: those to come, before those written, are the number's.
+use borrow.Author.Needs.{needs}
+use mathlib.Core.List.{_++_}
+use mathlib.Core.Path.{_≡_, refl, sym, _∙_, ap}
+use Prim.Native.Nat.{_≤_, _<_}
+use native.Mathlib.Omega.{arith}
+use lib.ListN.{length, drop, length-set}
+use Rattle.digits.specs.Decimal.{digits}
+use Rattle.digits.proofs.Written.{lastDigits, writing-starts, writing-on, writing-done, spelled-short, spelled-fits}
+use Rattle.digits.proofs.spell.Statement.{statement}
+use Rattle.digits.proofs.spell.Tie as tie
+
+abbrev Inv-loop : tie.InvT-loop
+Inv-loop n scratch₀ count at₀ rest₀ scratch at rest = (at ≤ count) × (length scratch ≡ length scratch₀) × (lastDigits at rest ++ drop at scratch ≡ digits n ++ drop count scratch₀)
+
+abbrev μ-loop : tie.MeasureT-loop
+μ-loop n scratch₀ count at₀ rest₀ scratch at rest = at
+
+places-requires : tie.Need-places-requires Inv-loop μ-loop
+places-requires c κs = search needs
+
+returns : tie.Need-returns Inv-loop μ-loop
+returns c =
+    let a = c .before .before .before .args in
+    let short : length (a .scratch .now) < length (digits (a .n)) = omega (arith, c .before .places .ensures) in
+    spelled-short (a .n) (a .scratch .now) short
+
+loop-holds : tie.Need-loop-holds Inv-loop μ-loop
+loop-holds c = (omega arith, refl, writing-starts _ _ _ (c .before .places .ensures))
+
+sub-at : tie.Need-sub-at Inv-loop μ-loop
+sub-at c = search needs
+
+cast-scratch : tie.Need-cast-scratch Inv-loop μ-loop
+cast-scratch c = search needs
+
+add-scratch : tie.Need-add-scratch Inv-loop μ-loop
+add-scratch c = search needs
+
+slice-write-scratch : tie.Need-slice-write-scratch Inv-loop μ-loop
+slice-write-scratch c = omega arith
+
+loop-less : tie.Need-loop-less Inv-loop μ-loop
+loop-less c = search needs
+
+loop-again : tie.Need-loop-again Inv-loop μ-loop
+loop-again c =
+    let l = c .before .loop in
+    (omega arith, simp length-set (l .inv .1), writing-on (l .at) (l .rest) (l .scratch) (c .loop-test .taken) (omega arith) ∙ l .inv .2)
+
+same-length : tie.Need-same-length Inv-loop μ-loop
+same-length c = c .before .loop .inv .1
+
+returns-2 : tie.Need-returns-2 Inv-loop μ-loop
+returns-2 c =
+    let a = c .before .before .before .before .before .args in
+    let l = c .before .loop in
+    let count = c .before .before .before .places in
+    spelled-fits (a .n) (count .result) (a .scratch .now) (count .ensures) (omega arith) (writing-done (l .at) (l .rest) (l .scratch) _ (omega arith) (l .inv .2))
+
+pub spell-spec : {M : Type 1} → statement M
+spell-spec =
+    tie.close
+    (tie.spec
+    Inv-loop
+    μ-loop
+    places-requires
+    returns
+    loop-holds
+    sub-at
+    cast-scratch
+    add-scratch
+    slice-write-scratch
+    loop-less
+    loop-again
+    same-length
+    returns-2)

@@ -1,0 +1,68 @@
+// Decimal numbers, written into lent bytes: what a text writer spells its numbers with.
+ghost use mathlib.Core.Path.{_≡_};
+ghost use lib.ListN.{length};
+ghost use denote.Ref.{ptr};
+ghost use Rattle.digits.specs.Decimal.{digits, part, spelt, spelling};
+
+// How many digits a number has. Small numbers are the usual ones, and are told first.
+pub fn places(n: u32) -> usize
+    ensures { λ r. ⌜ r ≡ length (digits n) ⌝ }
+{
+    if n < 10 {
+        return 1;
+    }
+    if n < 100 {
+        return 2;
+    }
+    if n < 1000 {
+        return 3;
+    }
+    if n < 10000 {
+        return 4;
+    }
+    if n < 100000 {
+        return 5;
+    }
+    if n < 1000000 {
+        return 6;
+    }
+    if n < 10000000 {
+        return 7;
+    }
+    if n < 100000000 {
+        return 8;
+    }
+    if n < 1000000000 {
+        return 9;
+    }
+    10
+}
+
+// Writes a number's digits at the start of the scratch and answers how many there are. Where they do
+// not fit it answers 0, and the scratch is as it was.
+pub fn spell(n: u32, scratch: &mut [u8]) -> usize
+    ensures { λ r. ⌜ spelt r (now (scratch .exit)) ≡ spelling n (now (scratch .entry)) ⌝ }
+{
+    let count = places(n);
+    if scratch.len() < count {
+        return 0;
+    }
+    let mut at = count;
+    let mut rest = n;
+    while at > 0 {
+        at -= 1;
+        scratch[at] = b'0' + (rest % 10) as u8;
+        rest /= 10;
+    }
+    count
+}
+
+// The same, and hands back the written part, which starts where the scratch does: an empty one where
+// the digits do not fit. Who is handed a part of what it lent no longer knows the rest: `spell` says it.
+pub fn decimal(n: u32, scratch: &mut [u8]) -> &mut [u8]
+    ensures { λ r. ⌜ now r ≡ part n (now (scratch .entry)) ⌝ }
+    ensures { λ r. ⌜ ptr r ≡ ptr (scratch .entry) ⌝ }
+{
+    let count = spell(n, scratch);
+    &mut scratch[..count]
+}
