@@ -11,14 +11,11 @@ spell-requires c κs = search needs
 
 slice-aggregate-result : tie.Need-slice-aggregate-result
 slice-aggregate-result c =
-    let a = c .before .before .before .before .before .before .args in
     let e = c .before .before .before .spell .ensures in
-    spelt-written e ∙ sym (ap length (part-taken (a .n) (a .scratch .now) e))
+    spelt-written e ∙ sym (ap length (part-taken _ _ e))
 
 returns : tie.Need-returns
-returns c =
-    let a = c .before .before .before .before .before .before .args in
-    (part-taken (a .n) (a .scratch .now) (c .before .before .before .spell .ensures), refl)
+returns c = (part-taken _ _ (c .before .before .before .spell .ensures), refl)
 
 pub decimal-spec : {M : Type 1} → statement M
 decimal-spec = tie.close (tie.spec spell-requires slice-aggregate-result returns)

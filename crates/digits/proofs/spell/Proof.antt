@@ -1,8 +1,8 @@
 -- `spell` meets its contract. Its loop writes the digits from the last to the first: those to come, before those written, are the number's.
 use borrow.Author.Needs.{needs}
 use mathlib.Core.List.{_++_}
-use mathlib.Core.Path.{_≡_, refl, sym, _∙_, ap}
-use Prim.Native.Nat.{_≤_, _<_}
+use mathlib.Core.Path.{_≡_, refl, _∙_}
+use Prim.Native.Nat.{_≤_}
 use native.Mathlib.Omega.{arith}
 use lib.ListN.{length, drop, length-set}
 use Rattle.digits.specs.Decimal.{digits}
@@ -20,10 +20,7 @@ places-requires : tie.Need-places-requires Inv-loop μ-loop
 places-requires c κs = search needs
 
 returns : tie.Need-returns Inv-loop μ-loop
-returns c =
-    let a = c .before .before .before .args in
-    let short : length (a .scratch .now) < length (digits (a .n)) = omega (arith, c .before .places .ensures) in
-    spelled-short (a .n) (a .scratch .now) short
+returns c = spelled-short _ _ (omega arith)
 
 loop-holds : tie.Need-loop-holds Inv-loop μ-loop
 loop-holds c = (omega arith, refl, writing-starts _ _ _ (c .before .places .ensures))
@@ -52,11 +49,7 @@ same-length : tie.Need-same-length Inv-loop μ-loop
 same-length c = c .before .loop .inv .1
 
 returns-2 : tie.Need-returns-2 Inv-loop μ-loop
-returns-2 c =
-    let a = c .before .before .before .before .before .args in
-    let l = c .before .loop in
-    let count = c .before .before .before .places in
-    spelled-fits (a .n) (count .result) (a .scratch .now) (count .ensures) (omega arith) (writing-done (l .at) (l .rest) (l .scratch) _ (omega arith) (l .inv .2))
+returns-2 c = spelled-fits _ _ _ (c .before .before .before .places .ensures) (omega arith) (writing-done _ _ _ _ (omega arith) (c .before .loop .inv .2))
 
 pub spell-spec : {M : Type 1} → statement M
 spell-spec =
