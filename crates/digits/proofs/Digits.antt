@@ -1,6 +1,6 @@
--- Laws of decimal numbers: how a number's digits follow from those of its tenth, what they say, and how many there are.
-use mathlib.Core.List.{List, [], _∷_, _++_}
-use mathlib.Core.Path.{_≡_, refl}
+-- Laws of decimal numbers: how a number's digits follow from those of its tenth, what they say, which bytes they are and how many, and that no other numeral says the same.
+use mathlib.Core.List.{List, [], _∷_, _++_, append-nil, append-assoc}
+use mathlib.Core.Path.{_≡_, refl, sym, _∙_, ap}
 use Prim.Native.Nat.{ℕ, zero, suc, _+_, _-_, _*_, _/_, _%_, _^_, _≤_, _<_}
 use native.Mathlib.Nat.{div-lt-self, div-add-mod', mod-lt, div-lt-iff-lt-mul, le-div-iff-mul-le, not-suc-le-zero, pow-suc, one-le-pow}
 use native.Mathlib.Numerals.{add-one}
@@ -12,7 +12,7 @@ use Rattle.geometry.proofs.Refusals.{split}
 use Rattle.geometry.specs.Lists.{Each}
 use Rattle.geometry.proofs.Lists.{each-append}
 use Rattle.digits.specs.Decimal.{glyph, IsDigit, digitsWithin, digits, valueAfter, value}
-use Rattle.digits.specs.Statements.{Decimal}
+use Rattle.digits.specs.Statements.{Numeral, Decimal}
 
 -- ---- a number and its tenth
 
@@ -144,7 +144,57 @@ digits-at-least (suc k) n h =
 pub digits-between : (k n : ℕ) → 10 ^ k ≤ n → n < 10 ^ suc k → suc k ≡ length (digits n)
 digits-between k n least most = omega (arith, digits-at-least k n least, digits-at-most k n most)
 
+-- ---- no other numeral
+
+-- A digit after a number is its last.
+digits-after : (n byte : ℕ) → 1 ≤ n → IsDigit byte → digits (n * 10 + (byte - 48)) ≡ digits n ++ (byte ∷ [])
+digits-after n byte some is =
+    let tenth : (n * 10 + (byte - 48)) / 10 ≡ n = omega arith in
+    let last : glyph ((n * 10 + (byte - 48)) % 10) ≡ byte = omega arith in
+    rw (tenth, last) at (digits-more (n * 10 + (byte - 48)) (omega arith))
+
+-- Digits that stand after a number from 1 on are the last of what they say then.
+digits-append : (n : ℕ) (bytes : List ℕ) → 1 ≤ n → Each IsDigit bytes → digits (valueAfter n bytes) ≡ digits n ++ bytes
+unfolding valueAfter Each
+digits-append n [] some each = sym (append-nil (digits n))
+digits-append n (byte ∷ bytes) some each =
+    digits-append (n * 10 + (byte - 48)) bytes (omega arith) (each .1)
+    ∙ ap (λ (l : List ℕ). l ++ bytes) (digits-after n byte some (each .0))
+    ∙ append-assoc (digits n) (byte ∷ []) bytes
+
+-- A digit by itself is all of what it says.
+digits-alone : (byte : ℕ) → IsDigit byte → digits (0 * 10 + (byte - 48)) ≡ byte ∷ []
+digits-alone byte is =
+    let same : glyph (0 * 10 + (byte - 48)) ≡ byte = omega arith in
+    rw same at (digits-one (0 * 10 + (byte - 48)) (omega arith))
+
+-- The digits of what a numeral says are that numeral.
+pub digits-value : (bytes : List ℕ) → Numeral bytes → digits (value bytes) ≡ bytes
+unfolding valueAfter Each
+digits-value [] l = absurd (not-suc-le-zero (l .some))
+digits-value (byte ∷ []) l = digits-alone byte (l .each .0)
+digits-value (byte ∷ next ∷ bytes) l =
+    split (ltb 48 byte)
+    (λ t.
+    let more = ltb-true 48 byte t in
+    digits-append (0 * 10 + (byte - 48)) (next ∷ bytes) (omega arith) (l .each .1)
+    ∙ ap (λ (first : List ℕ). first ++ (next ∷ bytes)) (digits-alone byte (l .each .0)))
+    (λ f.
+    let less = ltb-false 48 byte f in
+    let is = l .each .0 in
+    let alone = l .first (omega arith) in
+    let none : ⊥ = omega arith in
+    absurd none)
+
 -- ---- all of it
 
 pub decimal-holds : (n : ℕ) → Decimal n
-decimal-holds n = record { says = value-digits n; bytes = digits-digits n; first = no-leading-zero n; some = digits-some n; few = λ h. digits-at-most 9 n (omega arith) }
+decimal-holds n =
+    record {
+      says = value-digits n;
+      bytes = digits-digits n;
+      first = no-leading-zero n;
+      some = digits-some n;
+      few = λ h. digits-at-most 9 n (omega arith);
+      only = λ bytes l e. sym (digits-value bytes l) ∙ ap digits e;
+    }

@@ -6,6 +6,12 @@ use lib.ListN.{length, getD, take, drop}
 use Rattle.geometry.specs.Lists.{Each}
 use Rattle.digits.specs.Decimal.{IsDigit, digits, value, part, spelled}
 
+-- A decimal numeral, whoever wrote it: digits, one at least, and a zero first only where it stands alone.
+pub record Numeral (bytes : List ℕ) : Type 0 where
+  pub each : Each IsDigit bytes
+  pub some : 1 ≤ length bytes
+  pub first : getD bytes 0 0 ≡ 48 → length bytes ≡ 1
+
 -- Of a number's digits (`decimal-holds`):
 pub record Decimal (n : ℕ) : Type 0 where
   -- they read back: what they say is that number,
@@ -16,8 +22,10 @@ pub record Decimal (n : ℕ) : Type 0 where
   pub first : getD (digits n) 0 0 ≡ 48 → n ≡ 0
   -- there is one at least,
   pub some : 1 ≤ length (digits n)
-  -- and a 32-bit number has at most ten.
+  -- a 32-bit number has at most ten,
   pub few : n < 2 ^ 32 → length (digits n) ≤ 10
+  -- and no other numeral says that number.
+  pub only : (bytes : List ℕ) → Numeral bytes → value bytes ≡ n → bytes ≡ digits n
 
 -- Of a scratch that a number is spelled into (`formatted-holds`):
 pub record Formatted (n : ℕ) (scratch : List ℕ) : Type 0 where

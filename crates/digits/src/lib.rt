@@ -58,7 +58,7 @@ pub fn spell(n: u32, scratch: &mut [u8]) -> usize
 }
 
 // The same, and hands back the written part, which starts where the scratch does: an empty one where
-// the digits do not fit. Who is handed a part of what it lent no longer knows the rest: `spell` says it.
+// the digits do not fit. What the rest of the scratch holds cannot be said of a part: `spell` says it.
 pub fn decimal(n: u32, scratch: &mut [u8]) -> &mut [u8]
     ensures { λ r. ⌜ now r ≡ part n (now (scratch .entry)) ⌝ }
     ensures { λ r. ⌜ ptr r ≡ ptr (scratch .entry) ⌝ }
