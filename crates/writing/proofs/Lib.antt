@@ -1,0 +1,9 @@
+-- Laws, and what is shown of the contracts themselves. A function's own proof stands in the folder named after it.
+-- Of what is left of a mesh.
+pub mod Rest
+-- Of counts taken off a room.
+pub mod Taking
+-- Of checks asked of one quad after another.
+pub mod Checking
+-- Of the order of the checks.
+pub mod Ordered
