@@ -1,0 +1,1 @@
+-- Laws, and what is shown of the contracts themselves. A function's own proof stands in the folder named after it.

@@ -1,0 +1,10 @@
+-- What the crate promises, in document 02's words: its first request, "Wavefront OBJ for the site planners". To be read in this order, after a mesh that is handed in (crates/writing/specs) and decimal numbers (crates/digits/specs).
+-- The text of a mesh.
+pub mod Text
+-- The whole outcome of a call.
+pub mod Obj
+-- A reader of such texts.
+-- What is shown of a text beside its bytes.
+-- Worked examples.
+-- For private contracts alone:
+pub mod Page
