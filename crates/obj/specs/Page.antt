@@ -32,9 +32,13 @@ page out at = record { out = out; at = at }
 unfoldable pub put : Page → List ℕ → Page
 put p new = page (setAll (p .out) (p .at) new) (p .at + length new)
 
--- There is room for so many bytes.
-abbrev pub Room : List ℕ → ℕ → ℕ → Type 0
-Room out at many = at + many ≤ length out
+-- What a function that writes promises: from where the output stood to where it has come, these bytes were put into it.
+pub record Wrote (new : List ℕ) (out : List ℕ) (at : ℕ) (out′ : List ℕ) (at′ : ℕ) : Type 0 where
+  pub is : page out′ at′ ≡ put (page out at) new
+
+-- And what it asks: the output has room for them.
+pub record Room (new : List ℕ) (out : List ℕ) (at : ℕ) : Type 0 where
+  pub fits : at + length new ≤ length out
 
 -- A number, and a byte after it.
 abbrev pub ended : ℕ → ℕ → List ℕ

@@ -1,7 +1,8 @@
 // How many bytes the text of a mesh has, before any of it is written.
 ghost use mathlib.Core.Path.{_≡_};
-ghost use Prim.Native.Nat.{_*_, _<_};
+ghost use Prim.Native.Nat.{_*_, _<_, _≤_};
 ghost use lib.ListN.{length};
+ghost use Rattle.geometry.specs.Point.{at};
 ghost use Rattle.geometry.specs.Refusal.{accepted, checked};
 ghost use Rattle.greedy.specs.Greedy.{quadNumbers};
 ghost use Rattle.writing.specs.Handed.{mostQuads, listedChecks};
@@ -11,7 +12,6 @@ ghost use Rattle.obj.specs.Page.{on, pointPlaces, trianglesLong, Drawabl
 use geometry::face::CornersAnswer;
 use geometry::face::OrientedBlockFace;
 use geometry::quad::UnorientedQuad;
-use geometry::vector::UVec3;
 use greedy::QUAD_NUMBERS;
 use writing::handed;
 
@@ -19,10 +19,11 @@ use writing::handed;
 const HEAD: usize = 7;
 
 // The digits of a point's coordinates.
-fn places(point: UVec3) -> usize
-    ensures { λ r. ⌜ r ≡ pointPlaces point ⌝ }
+fn places(x: u32, y: u32, z: u32) -> usize
+    ensures { λ r. ⌜ r ≡ pointPlaces (at x y z) ⌝ }
+    ensures { λ r. ⌜ r ≤ 30 ⌝ }
 {
-    digits::places(point.x) + digits::places(point.y) + digits::places(point.z)
+    digits::places(x) + digits::places(y) + digits::places(z)
 }
 
 // The four lines of a quad's corners. On each axis two of them are where the first corner is, and two
@@ -33,8 +34,10 @@ fn corners(face: OrientedBlockFace, quad: UnorientedQuad) -> usize
 {
     match face.quad_corners(quad) {
         CornersAnswer::Corners(corners) => {
-            let first = places(corners.minu_minv);
-            let last = places(corners.maxu_maxv);
+            let a = corners.minu_minv;
+            let d = corners.maxu_maxv;
+            let first = places(a.x, a.y, a.z);
+            let last = places(d.x, d.y, d.z);
             20 + 2 * (first + last)
         }
         CornersAnswer::Refused(_) => 0,

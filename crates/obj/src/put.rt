@@ -11,8 +11,7 @@ ghost use Rattle.writing.specs.Handed.{mostQuads, listedChecks};
 ghost use Rattle.obj.specs.Text as spec;
 ghost use Rattle.obj.specs.Text.{cornerLine, triangleLine, cornerLines, triangleLines, bytesOf, quadText};
 ghost use Rattle.obj.specs.Obj.{objText};
-ghost use Rattle.obj.specs.Page as output;
-ghost use Rattle.obj.specs.Page.{page, Room, ended, lineOf, on, Drawable, GroupReady, groupText};
+ghost use Rattle.obj.specs.Page.{Wrote, Room, ended, lineOf, on, Drawable, GroupReady, groupText};
 use geometry::face::CornersAnswer;
 use geometry::face::IndicesAnswer;
 use geometry::face::OrientedBlockFace;
@@ -24,8 +23,8 @@ use writing::handed;
 
 // Some bytes as they are.
 fn bytes(new: &[u8], out: &mut [u8], at: usize) -> usize
-    requires { ⌜ Room (now out) at (length (now new)) ⌝ }
-    ensures { λ r. ⌜ page (now (out .exit)) r ≡ output.put (page (now (out .entry)) at) (now (new .entry)) ⌝ }
+    requires { ⌜ Room (now new) (now out) at ⌝ }
+    ensures { λ r. ⌜ Wrote (now (new .entry)) (now (out .entry)) at (now (out .exit)) r ⌝ }
 {
     let mut k: usize = 0;
     while k < new.len() {
@@ -38,8 +37,8 @@ fn bytes(new: &[u8], out: &mut [u8], at: usize) -> usize
 
 // A number, and a byte after it.
 fn number(n: u32, end: u8, out: &mut [u8], at: usize) -> usize
-    requires { ⌜ Room (now out) at (length (ended n end)) ⌝ }
-    ensures { λ r. ⌜ page (now (out .exit)) r ≡ output.put (page (now (out .entry)) at) (ended n end) ⌝ }
+    requires { ⌜ Room (ended n end) (now out) at ⌝ }
+    ensures { λ r. ⌜ Wrote (ended n end) (now (out .entry)) at (now (out .exit)) r ⌝ }
 {
     let next = at + digits::spell(n, &mut out[at..]);
     out[next] = end;
@@ -48,8 +47,8 @@ fn number(n: u32, end: u8, out: &mut [u8], at: usize) -> usize
 
 // A line: its start, and three numbers.
 fn line(start: &[u8], a: u32, b: u32, c: u32, out: &mut [u8], at: usize) -> usize
-    requires { ⌜ Room (now out) at (length (lineOf (now start) a b c)) ⌝ }
-    ensures { λ r. ⌜ page (now (out .exit)) r ≡ output.put (page (now (out .entry)) at) (lineOf (now (start .entry)) a b c) ⌝ }
+    requires { ⌜ Room (lineOf (now start) a b c) (now out) at ⌝ }
+    ensures { λ r. ⌜ Wrote (lineOf (now (start .entry)) a b c) (now (out .entry)) at (now (out .exit)) r ⌝ }
 {
     let first = bytes(start, out, at);
     let second = number(a, b' ', out, first);
@@ -59,8 +58,8 @@ fn line(start: &[u8], a: u32, b: u32, c: u32, out: &mut [u8], at: usize) -> usiz
 
 // A corner's line.
 fn corner(p: UVec3, out: &mut [u8], at: usize) -> usize
-    requires { ⌜ Room (now out) at (length (spec.bytes (cornerLine p))) ⌝ }
-    ensures { λ r. ⌜ page (now (out .exit)) r ≡ output.put (page (now (out .entry)) at) (spec.bytes (cornerLine p)) ⌝ }
+    requires { ⌜ Room (spec.bytes (cornerLine p)) (now out) at ⌝ }
+    ensures { λ r. ⌜ Wrote (spec.bytes (cornerLine p)) (now (out .entry)) at (now (out .exit)) r ⌝ }
 {
     line(b"v ", p.x, p.y, p.z, out, at)
 }
@@ -68,8 +67,8 @@ fn corner(p: UVec3, out: &mut [u8], at: usize) -> usize
 // A triangle's line: its vertex numbers, counted from 1.
 fn triangle(a: VertexIndex, b: VertexIndex, c: VertexIndex, out: &mut [u8], at: usize) -> usize
     requires { ⌜ (a .0 < 4_294_967_295) × (b .0 < 4_294_967_295) × (c .0 < 4_294_967_295) ⌝ }
-    requires { ⌜ Room (now out) at (length (spec.bytes (triangleLine ((a .0 + 1) ∷ (b .0 + 1) ∷ (c .0 + 1) ∷ [])))) ⌝ }
-    ensures { λ r. ⌜ page (now (out .exit)) r ≡ output.put (page (now (out .entry)) at) (spec.bytes (triangleLine ((a .0 + 1) ∷ (b .0 + 1) ∷ (c .0 + 1) ∷ []))) ⌝ }
+    requires { ⌜ Room (spec.bytes (triangleLine ((a .0 + 1) ∷ (b .0 + 1) ∷ (c .0 + 1) ∷ []))) (now out) at ⌝ }
+    ensures { λ r. ⌜ Wrote (spec.bytes (triangleLine ((a .0 + 1) ∷ (b .0 + 1) ∷ (c .0 + 1) ∷ []))) (now (out .entry)) at (now (out .exit)) r ⌝ }
 {
     line(b"f ", a.0 + 1, b.0 + 1, c.0 + 1, out, at)
 }
@@ -77,8 +76,8 @@ fn triangle(a: VertexIndex, b: VertexIndex, c: VertexIndex, out: &mut [u8], at: 
 // The lines of a quad's corners.
 fn corners(face: OrientedBlockFace, quad: UnorientedQuad, out: &mut [u8], at: usize) -> usize
     requires { ⌜ Drawable face quad ⌝ }
-    requires { ⌜ Room (now out) at (length (bytesOf (cornerLines (on face quad)))) ⌝ }
-    ensures { λ r. ⌜ page (now (out .exit)) r ≡ output.put (page (now (out .entry)) at) (bytesOf (cornerLines (on face quad))) ⌝ }
+    requires { ⌜ Room (bytesOf (cornerLines (on face quad))) (now out) at ⌝ }
+    ensures { λ r. ⌜ Wrote (bytesOf (cornerLines (on face quad))) (now (out .entry)) at (now (out .exit)) r ⌝ }
 {
     match face.quad_corners(quad) {
         CornersAnswer::Corners(corners) => {
@@ -95,8 +94,8 @@ fn corners(face: OrientedBlockFace, quad: UnorientedQuad, out: &mut [u8], at: us
 fn triangles(face: OrientedBlockFace, quad: UnorientedQuad, k: u32, out: &mut [u8], at: usize) -> usize
     requires { ⌜ Drawable face quad ⌝ }
     requires { ⌜ k < mostQuads ⌝ }
-    requires { ⌜ Room (now out) at (length (bytesOf (triangleLines k (on face quad)))) ⌝ }
-    ensures { λ r. ⌜ page (now (out .exit)) r ≡ output.put (page (now (out .entry)) at) (bytesOf (triangleLines k (on face quad))) ⌝ }
+    requires { ⌜ Room (bytesOf (triangleLines k (on face quad))) (now out) at ⌝ }
+    ensures { λ r. ⌜ Wrote (bytesOf (triangleLines k (on face quad))) (now (out .entry)) at (now (out .exit)) r ⌝ }
 {
     match face.quad_mesh_indices(VertexIndex(4 * k)) {
         IndicesAnswer::Indices(i) => {
@@ -111,8 +110,8 @@ fn triangles(face: OrientedBlockFace, quad: UnorientedQuad, k: u32, out: &mut [u
 fn quad(face: OrientedBlockFace, quad: UnorientedQuad, k: u32, out: &mut [u8], at: usize) -> usize
     requires { ⌜ Drawable face quad ⌝ }
     requires { ⌜ k < mostQuads ⌝ }
-    requires { ⌜ Room (now out) at (length (quadText k (on face quad))) ⌝ }
-    ensures { λ r. ⌜ page (now (out .exit)) r ≡ output.put (page (now (out .entry)) at) (quadText k (on face quad)) ⌝ }
+    requires { ⌜ Room (quadText k (on face quad)) (now out) at ⌝ }
+    ensures { λ r. ⌜ Wrote (quadText k (on face quad)) (now (out .entry)) at (now (out .exit)) r ⌝ }
 {
     let next = corners(face, quad, out, at);
     triangles(face, quad, k, out, next)
@@ -128,8 +127,8 @@ fn group(
     at: usize,
 ) -> usize
     requires { ⌜ GroupReady (now quads) face first (first * quadNumbers) count ⌝ }
-    requires { ⌜ Room (now out) at (length (groupText (now quads) face first (first * quadNumbers) count)) ⌝ }
-    ensures { λ r. ⌜ page (now (out .exit)) r ≡ output.put (page (now (out .entry)) at) (groupText (now (quads .entry)) face first (first * quadNumbers) count) ⌝ }
+    requires { ⌜ Room (groupText (now quads) face first (first * quadNumbers) count) (now out) at ⌝ }
+    ensures { λ r. ⌜ Wrote (groupText (now (quads .entry)) face first (first * quadNumbers) count) (now (out .entry)) at (now (out .exit)) r ⌝ }
 {
     let mut next = at;
     let mut k: usize = 0;
