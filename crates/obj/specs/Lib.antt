@@ -5,6 +5,7 @@ pub mod Text
 pub mod Obj
 -- A reader of such texts.
 -- What is shown of a text beside its bytes.
+pub mod Statements
 -- Worked examples.
 -- For private contracts alone:
 pub mod Page
