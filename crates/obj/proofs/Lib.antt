@@ -9,3 +9,5 @@ pub mod Measured
 pub mod Quads
 -- Of a text's length.
 pub mod Lengths
+-- Of reading a text back.
+pub mod ReadBack

@@ -4,6 +4,7 @@ pub mod Text
 -- The whole outcome of a call.
 pub mod Obj
 -- A reader of such texts.
+pub mod Reader
 -- What is shown of a text beside its bytes.
 pub mod Statements
 -- Worked examples.

@@ -9,6 +9,7 @@ use Rattle.geometry.specs.Lists.{Each}
 use Rattle.listing.specs.Listing.{joined}
 use Rattle.writing.specs.Handed.{OrientedQuad, numbered}
 use Rattle.obj.specs.Text.{Line, fourCorners, coordinates, indicesAt, firstTriangle, secondTriangle, triangleLines}
+use Rattle.obj.specs.Reader.{Meaning}
 
 -- ---- a quad's lines
 
@@ -30,3 +31,17 @@ FacesRefer k q = Each (λ (l : Line). Each (RefersTo k) (l .numbers)) (triangleL
 -- The most bytes of a text of so many quads: the first line's 7, and for each quad four lines of at most 17 bytes and two of at most 35 (`length-at-most`, `handed-at-most`).
 abbrev pub mostBytes : ℕ → ℕ
 mostBytes quads = 7 + 138 * quads
+
+-- ---- what a text says
+
+-- The coordinates of a quad's corners: twelve numbers.
+abbrev pub cornerNumbers : OrientedQuad → List ℕ
+cornerNumbers q = joined (map coordinates (fourCorners q))
+
+-- The vertex numbers of quad k's triangles, "counted from 1": six numbers.
+abbrev pub triangleNumbers : ℕ → OrientedQuad → List ℕ
+triangleNumbers k q = firstTriangle (indicesAt k q) ++ secondTriangle (indicesAt k q)
+
+-- Those of all quads in order: what reading a text back gives, whatever the quads are and however many (`reads-back`).
+unfoldable pub said : List OrientedQuad → Meaning
+said qs = record { corners = joined (map cornerNumbers qs); triangles = numbered triangleNumbers 0 qs }
