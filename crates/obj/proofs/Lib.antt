@@ -11,3 +11,5 @@ pub mod Quads
 pub mod Lengths
 -- Of reading a text back.
 pub mod ReadBack
+-- The worked examples.
+pub mod Examples

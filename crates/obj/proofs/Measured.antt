@@ -14,7 +14,7 @@ use Rattle.geometry.specs.declared.quad.UnorientedQuad.{UnorientedQuad}
 use Rattle.geometry.specs.declared.face.OrientedBlockFace.{OrientedBlockFace}
 use Rattle.geometry.specs.declared.face.Corner.{Corner}
 use Rattle.geometry.specs.declared.face.Corner.the-variants.{MinuMinv, MaxuMinv, MinuMaxv, MaxuMaxv}
-use Rattle.geometry.specs.Point.{Point, along}
+use Rattle.geometry.specs.Point.{along}
 use Rattle.geometry.specs.Axes.{positive, permutationSign}
 use Rattle.geometry.specs.Corners.{corner}
 use Rattle.geometry.specs.Vertices.{indices}

@@ -8,5 +8,6 @@ pub mod Reader
 -- What is shown of a text beside its bytes.
 pub mod Statements
 -- Worked examples.
+pub mod Examples
 -- For private contracts alone:
 pub mod Page

@@ -1,0 +1,184 @@
+-- Worked examples: document 02's own text, and others that were worked out from documents 01 and 02 apart from these rules. Each is a whole call, and each side of each row is computed (proofs/Examples.antt, `examples-hold`).
+use mathlib.Core.List.{List, [], _∷_, _++_}
+use mathlib.Core.Path.{_≡_}
+use Prim.Native.Nat.{ℕ}
+use lib.IntN.{ℤ, pos, negsuc}
+use Rattle.geometry.specs.declared.axis.AxisPermutation.{AxisPermutation}
+use Rattle.geometry.specs.declared.axis.AxisPermutation.the-variants.{Xyz, Zxy, Yzx, Xzy}
+use Rattle.geometry.specs.declared.face.OrientedBlockFace.{OrientedBlockFace}
+use Rattle.digits.specs.Examples.{zs}
+use Rattle.writing.specs.Written.{WriteOutcome, outcome, refusedAnswer, acceptedAnswer}
+use Rattle.obj.specs.Obj.{writeObj}
+
+-- What a call is handed, and what it leaves.
+pub record Example : Type 0 where
+  pub faces : List OrientedBlockFace
+  pub counts : List ℕ
+  pub list : List ℕ
+  pub out : List ℕ
+  pub leaves : WriteOutcome
+
+abbrev pub Holds : Example → Type 0
+Holds e = writeObj (e .faces) (e .counts) (e .list) (e .out) ≡ e .leaves
+
+-- A face by its sign and permutation.
+abbrev pub facing : ℤ → AxisPermutation → OrientedBlockFace
+facing s p = record { «n_sign» = s; permutation = p }
+
+-- A first face, then -X +Y -Y +Z, and a last.
+abbrev pub between : OrientedBlockFace → OrientedBlockFace → List OrientedBlockFace
+between first last = first ∷ facing (negsuc 0) Xyz ∷ facing (pos 1) Yzx ∷ facing (negsuc 0) Yzx ∷ facing (pos 1) Zxy ∷ last ∷ []
+
+-- +X -X +Y -Y +Z -Z.
+abbrev pub six : List OrientedBlockFace
+six = between (facing (pos 1) Xyz) (facing (negsuc 0) Zxy)
+
+-- One quad in the first group, and none in the others.
+abbrev pub oneQuad : List ℕ
+oneQuad = 1 ∷ 0 ∷ 0 ∷ 0 ∷ 0 ∷ 0 ∷ []
+
+-- No quads.
+abbrev pub noQuads : List ℕ
+noQuads = 0 ∷ 0 ∷ 0 ∷ 0 ∷ 0 ∷ 0 ∷ []
+
+-- The document's quad: minimum (1, 1, 1), width 1, height 1.
+abbrev pub unit : List ℕ
+unit = 1 ∷ 1 ∷ 1 ∷ 1 ∷ 1 ∷ []
+
+-- One like it, but of width 0.
+abbrev pub flat : List ℕ
+flat = 1 ∷ 1 ∷ 1 ∷ 0 ∷ 1 ∷ []
+
+-- A call that writes so many bytes, and what its output then holds.
+abbrev pub writes : ℕ → List ℕ → WriteOutcome
+writes bytes out = outcome (acceptedAnswer bytes) out
+
+-- A call that is refused leaves its output as it was.
+abbrev pub refuses : ℕ → ℕ → List ℕ → WriteOutcome
+refuses number place out = outcome (refusedAnswer number place) out
+
+-- The document's text.
+abbrev pub theDocuments : List ℕ
+theDocuments =
+    111 ∷ 32 ∷ 109 ∷ 101 ∷ 115 ∷ 104 ∷ 10 ∷
+    118 ∷ 32 ∷ 50 ∷ 32 ∷ 49 ∷ 32 ∷ 49 ∷ 10 ∷
+    118 ∷ 32 ∷ 50 ∷ 32 ∷ 50 ∷ 32 ∷ 49 ∷ 10 ∷
+    118 ∷ 32 ∷ 50 ∷ 32 ∷ 49 ∷ 32 ∷ 50 ∷ 10 ∷
+    118 ∷ 32 ∷ 50 ∷ 32 ∷ 50 ∷ 32 ∷ 50 ∷ 10 ∷
+    102 ∷ 32 ∷ 49 ∷ 32 ∷ 50 ∷ 32 ∷ 51 ∷ 10 ∷
+    102 ∷ 32 ∷ 50 ∷ 32 ∷ 52 ∷ 32 ∷ 51 ∷ 10 ∷
+    []
+
+-- The text of the same quad on -X: no step along n, and the other winding.
+abbrev pub onMinusX : List ℕ
+onMinusX =
+    111 ∷ 32 ∷ 109 ∷ 101 ∷ 115 ∷ 104 ∷ 10 ∷
+    118 ∷ 32 ∷ 49 ∷ 32 ∷ 49 ∷ 32 ∷ 49 ∷ 10 ∷
+    118 ∷ 32 ∷ 49 ∷ 32 ∷ 50 ∷ 32 ∷ 49 ∷ 10 ∷
+    118 ∷ 32 ∷ 49 ∷ 32 ∷ 49 ∷ 32 ∷ 50 ∷ 10 ∷
+    118 ∷ 32 ∷ 49 ∷ 32 ∷ 50 ∷ 32 ∷ 50 ∷ 10 ∷
+    102 ∷ 32 ∷ 49 ∷ 32 ∷ 51 ∷ 32 ∷ 50 ∷ 10 ∷
+    102 ∷ 32 ∷ 50 ∷ 32 ∷ 51 ∷ 32 ∷ 52 ∷ 10 ∷
+    []
+
+-- Of a quad on +X by the odd permutation Xzy, whose u runs along z.
+abbrev pub byXzy : List ℕ
+byXzy =
+    111 ∷ 32 ∷ 109 ∷ 101 ∷ 115 ∷ 104 ∷ 10 ∷
+    118 ∷ 32 ∷ 50 ∷ 32 ∷ 50 ∷ 32 ∷ 51 ∷ 10 ∷
+    118 ∷ 32 ∷ 50 ∷ 32 ∷ 50 ∷ 32 ∷ 55 ∷ 10 ∷
+    118 ∷ 32 ∷ 50 ∷ 32 ∷ 55 ∷ 32 ∷ 51 ∷ 10 ∷
+    118 ∷ 32 ∷ 50 ∷ 32 ∷ 55 ∷ 32 ∷ 55 ∷ 10 ∷
+    102 ∷ 32 ∷ 49 ∷ 32 ∷ 51 ∷ 32 ∷ 50 ∷ 10 ∷
+    102 ∷ 32 ∷ 50 ∷ 32 ∷ 51 ∷ 32 ∷ 52 ∷ 10 ∷
+    []
+
+-- Of a quad as wide as the largest axis, at its end: numbers of one to three digits.
+abbrev pub atTheEdge : List ℕ
+atTheEdge =
+    111 ∷ 32 ∷ 109 ∷ 101 ∷ 115 ∷ 104 ∷ 10 ∷
+    118 ∷ 32 ∷ 50 ∷ 53 ∷ 54 ∷ 32 ∷ 48 ∷ 32 ∷ 57 ∷ 10 ∷
+    118 ∷ 32 ∷ 50 ∷ 53 ∷ 54 ∷ 32 ∷ 50 ∷ 53 ∷ 54 ∷ 32 ∷ 57 ∷ 10 ∷
+    118 ∷ 32 ∷ 50 ∷ 53 ∷ 54 ∷ 32 ∷ 48 ∷ 32 ∷ 49 ∷ 48 ∷ 10 ∷
+    118 ∷ 32 ∷ 50 ∷ 53 ∷ 54 ∷ 32 ∷ 50 ∷ 53 ∷ 54 ∷ 32 ∷ 49 ∷ 48 ∷ 10 ∷
+    102 ∷ 32 ∷ 49 ∷ 32 ∷ 50 ∷ 32 ∷ 51 ∷ 10 ∷
+    102 ∷ 32 ∷ 50 ∷ 32 ∷ 52 ∷ 32 ∷ 51 ∷ 10 ∷
+    []
+
+-- Of a lone voxel's six quads: vertex numbers run on through the groups.
+abbrev pub loneVoxel : List ℕ
+loneVoxel =
+    111 ∷ 32 ∷ 109 ∷ 101 ∷ 115 ∷ 104 ∷ 10 ∷
+    118 ∷ 32 ∷ 50 ∷ 32 ∷ 49 ∷ 32 ∷ 49 ∷ 10 ∷
+    118 ∷ 32 ∷ 50 ∷ 32 ∷ 50 ∷ 32 ∷ 49 ∷ 10 ∷
+    118 ∷ 32 ∷ 50 ∷ 32 ∷ 49 ∷ 32 ∷ 50 ∷ 10 ∷
+    118 ∷ 32 ∷ 50 ∷ 32 ∷ 50 ∷ 32 ∷ 50 ∷ 10 ∷
+    102 ∷ 32 ∷ 49 ∷ 32 ∷ 50 ∷ 32 ∷ 51 ∷ 10 ∷
+    102 ∷ 32 ∷ 50 ∷ 32 ∷ 52 ∷ 32 ∷ 51 ∷ 10 ∷
+    118 ∷ 32 ∷ 49 ∷ 32 ∷ 49 ∷ 32 ∷ 49 ∷ 10 ∷
+    118 ∷ 32 ∷ 49 ∷ 32 ∷ 50 ∷ 32 ∷ 49 ∷ 10 ∷
+    118 ∷ 32 ∷ 49 ∷ 32 ∷ 49 ∷ 32 ∷ 50 ∷ 10 ∷
+    118 ∷ 32 ∷ 49 ∷ 32 ∷ 50 ∷ 32 ∷ 50 ∷ 10 ∷
+    102 ∷ 32 ∷ 53 ∷ 32 ∷ 55 ∷ 32 ∷ 54 ∷ 10 ∷
+    102 ∷ 32 ∷ 54 ∷ 32 ∷ 55 ∷ 32 ∷ 56 ∷ 10 ∷
+    118 ∷ 32 ∷ 49 ∷ 32 ∷ 50 ∷ 32 ∷ 49 ∷ 10 ∷
+    118 ∷ 32 ∷ 49 ∷ 32 ∷ 50 ∷ 32 ∷ 50 ∷ 10 ∷
+    118 ∷ 32 ∷ 50 ∷ 32 ∷ 50 ∷ 32 ∷ 49 ∷ 10 ∷
+    118 ∷ 32 ∷ 50 ∷ 32 ∷ 50 ∷ 32 ∷ 50 ∷ 10 ∷
+    102 ∷ 32 ∷ 57 ∷ 32 ∷ 49 ∷ 48 ∷ 32 ∷ 49 ∷ 49 ∷ 10 ∷
+    102 ∷ 32 ∷ 49 ∷ 48 ∷ 32 ∷ 49 ∷ 50 ∷ 32 ∷ 49 ∷ 49 ∷ 10 ∷
+    118 ∷ 32 ∷ 49 ∷ 32 ∷ 49 ∷ 32 ∷ 49 ∷ 10 ∷
+    118 ∷ 32 ∷ 49 ∷ 32 ∷ 49 ∷ 32 ∷ 50 ∷ 10 ∷
+    118 ∷ 32 ∷ 50 ∷ 32 ∷ 49 ∷ 32 ∷ 49 ∷ 10 ∷
+    118 ∷ 32 ∷ 50 ∷ 32 ∷ 49 ∷ 32 ∷ 50 ∷ 10 ∷
+    102 ∷ 32 ∷ 49 ∷ 51 ∷ 32 ∷ 49 ∷ 53 ∷ 32 ∷ 49 ∷ 52 ∷ 10 ∷
+    102 ∷ 32 ∷ 49 ∷ 52 ∷ 32 ∷ 49 ∷ 53 ∷ 32 ∷ 49 ∷ 54 ∷ 10 ∷
+    118 ∷ 32 ∷ 49 ∷ 32 ∷ 49 ∷ 32 ∷ 50 ∷ 10 ∷
+    118 ∷ 32 ∷ 50 ∷ 32 ∷ 49 ∷ 32 ∷ 50 ∷ 10 ∷
+    118 ∷ 32 ∷ 49 ∷ 32 ∷ 50 ∷ 32 ∷ 50 ∷ 10 ∷
+    118 ∷ 32 ∷ 50 ∷ 32 ∷ 50 ∷ 32 ∷ 50 ∷ 10 ∷
+    102 ∷ 32 ∷ 49 ∷ 55 ∷ 32 ∷ 49 ∷ 56 ∷ 32 ∷ 49 ∷ 57 ∷ 10 ∷
+    102 ∷ 32 ∷ 49 ∷ 56 ∷ 32 ∷ 50 ∷ 48 ∷ 32 ∷ 49 ∷ 57 ∷ 10 ∷
+    118 ∷ 32 ∷ 49 ∷ 32 ∷ 49 ∷ 32 ∷ 49 ∷ 10 ∷
+    118 ∷ 32 ∷ 50 ∷ 32 ∷ 49 ∷ 32 ∷ 49 ∷ 10 ∷
+    118 ∷ 32 ∷ 49 ∷ 32 ∷ 50 ∷ 32 ∷ 49 ∷ 10 ∷
+    118 ∷ 32 ∷ 50 ∷ 32 ∷ 50 ∷ 32 ∷ 49 ∷ 10 ∷
+    102 ∷ 32 ∷ 50 ∷ 49 ∷ 32 ∷ 50 ∷ 51 ∷ 32 ∷ 50 ∷ 50 ∷ 10 ∷
+    102 ∷ 32 ∷ 50 ∷ 50 ∷ 32 ∷ 50 ∷ 51 ∷ 32 ∷ 50 ∷ 52 ∷ 10 ∷
+    []
+
+unfoldable pub examples : List Example
+examples =
+    -- The document's: one quad on +X and five empty groups. Its 55 bytes just fit,
+    record { faces = six; counts = oneQuad; list = unit; out = zs 55; leaves = writes 55 theDocuments } ∷
+    -- into one byte fewer nothing is written,
+    record { faces = six; counts = oneQuad; list = unit; out = zs 54; leaves = refuses 15 0 (zs 54) } ∷
+    -- and of one more the last stays.
+    record { faces = six; counts = oneQuad; list = unit; out = zs 56; leaves = writes 55 (theDocuments ++ zs 1) } ∷
+    -- The same quad on -X,
+    record { faces = between (facing (negsuc 0) Xyz) (facing (negsuc 0) Zxy); counts = oneQuad; list = unit; out = zs 55; leaves = writes 55 onMinusX } ∷
+    -- one on +X by an odd permutation,
+    record { faces = between (facing (pos 1) Xzy) (facing (negsuc 0) Zxy); counts = oneQuad; list = 1 ∷ 2 ∷ 3 ∷ 4 ∷ 5 ∷ []; out = zs 55; leaves = writes 55 byXzy } ∷
+    -- and one that ends where the largest shape does.
+    record { faces = six; counts = oneQuad; list = 255 ∷ 0 ∷ 9 ∷ 256 ∷ 1 ∷ []; out = zs 69; leaves = writes 69 atTheEdge } ∷
+    -- A quad on each of the six faces.
+    record { faces = six; counts = 1 ∷ 1 ∷ 1 ∷ 1 ∷ 1 ∷ 1 ∷ []; list = unit ++ unit ++ unit ++ unit ++ unit ++ unit; out = zs 318; leaves = writes 318 loneVoxel } ∷
+    -- No quads are the first line alone, whatever stands in the list,
+    record { faces = six; counts = noQuads; list = flat ++ flat; out = zs 7; leaves = writes 7 (111 ∷ 32 ∷ 109 ∷ 101 ∷ 115 ∷ 104 ∷ 10 ∷ []) } ∷
+    -- and 6 bytes are too short for it.
+    record { faces = six; counts = noQuads; list = []; out = zs 6; leaves = refuses 15 0 (zs 6) } ∷
+    -- Nine numbers hold one quad, and not two.
+    record { faces = six; counts = 2 ∷ 0 ∷ 0 ∷ 0 ∷ 0 ∷ 0 ∷ []; list = unit ++ (1 ∷ 1 ∷ 1 ∷ 1 ∷ []); out = zs 200; leaves = refuses 24 0 (zs 200) } ∷
+    -- Counts are summed as numbers: 2 ^ 64 - 1 and 1 are not 0.
+    record { faces = six; counts = 18_446_744_073_709_551_615 ∷ 1 ∷ 0 ∷ 0 ∷ 0 ∷ 0 ∷ []; list = []; out = zs 7; leaves = refuses 24 0 (zs 7) } ∷
+    -- A list too short, the last face's sign 0, a quad of width 0 and no output: 24 is given,
+    record { faces = between (facing (pos 1) Xyz) (facing (pos 0) Zxy); counts = oneQuad; list = 1 ∷ 1 ∷ 1 ∷ 0 ∷ []; out = []; leaves = refuses 24 0 [] } ∷
+    -- with that mended 6, though the last face's group is empty,
+    record { faces = between (facing (pos 1) Xyz) (facing (pos 0) Zxy); counts = oneQuad; list = flat; out = []; leaves = refuses 6 5 [] } ∷
+    -- then 12,
+    record { faces = six; counts = oneQuad; list = flat; out = []; leaves = refuses 12 0 [] } ∷
+    -- and then 15.
+    record { faces = six; counts = oneQuad; list = unit; out = []; leaves = refuses 15 0 [] } ∷
+    -- A quad's number runs on through the groups: the first of the second group is quad 1.
+    record { faces = six; counts = 1 ∷ 1 ∷ 0 ∷ 0 ∷ 0 ∷ 0 ∷ []; list = unit ++ flat; out = zs 200; leaves = refuses 12 1 (zs 200) } ∷
+    []
