@@ -48,7 +48,7 @@ quad-at-most k q within few = omega (arith, quad-long k q, corners-at-most q wit
 -- ---- the text
 
 -- The lines of quads, the first of number k.
-quads-at-most : (k : ℕ) (qs : List OrientedQuad) → Each WithinQuad qs → k + length qs ≤ mostQuads → length (numbered quadText k qs) ≤ 138 * length qs
+pub quads-at-most : (k : ℕ) (qs : List OrientedQuad) → Each WithinQuad qs → k + length qs ≤ mostQuads → length (numbered quadText k qs) ≤ 138 * length qs
 unfolding Each numbered
 quads-at-most k [] each h = omega arith
 quads-at-most k (q ∷ qs) each h =

@@ -7,8 +7,14 @@ pub mod Joined
 pub mod Measured
 -- Of a quad's lines, and what geometry answers for it.
 pub mod Quads
+-- Of what geometry says of it.
+pub mod Given
+-- Of its lines as they are written.
+pub mod Lines
 -- Of a text's length.
 pub mod Lengths
+-- Of a loop over the quads of a group.
+pub mod Going
 -- Of reading a text back.
 pub mod ReadBack
 -- The worked examples.

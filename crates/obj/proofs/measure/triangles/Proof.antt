@@ -1,71 +1,71 @@
+-- `triangles` meets its contract: a vertex number has at most ten digits.
 use borrow.Author.Needs.{needs}
+use Prim.Native.Nat.{ℕ, _+_, _*_, _≤_, _<_}
+use native.Mathlib.Omega.{arith}
+use lib.ListN.{length}
+use Rattle.digits.specs.Decimal.{digits}
+use Rattle.digits.proofs.Digits.{digits-at-most}
 use Rattle.obj.proofs.measure.triangles.Statement.{statement}
 use Rattle.obj.proofs.measure.triangles.Tie as tie
-use Rattle.obj.proofs.measure.triangles.Reads as reads
-use Rattle.obj.proofs.measure.triangles.Lts as lts
-use Rattle.digits.proofs.places.Reads as places-reads
 
--- src/measure.rt:52:17
+few : (n : ℕ) → n < 4_294_967_296 → length (digits n) ≤ 10
+few n h = digits-at-most 9 n (omega arith)
+
+-- None of the four counts is more.
+small : (c : tie.After-places4) → (c .before .before .before .places .result ≤ 10) × (c .before .before .places2 .result ≤ 10) × (c .before .places3 .result ≤ 10) × (c .places4 .result ≤ 10)
+small c =
+    let start = c .before .before .before .before in (
+      rw (c .before .before .before .places .ensures) (few _ (omega (arith, start .pre))),
+      rw (c .before .before .places2 .ensures) (few _ (omega (arith, start .pre))),
+      rw (c .before .places3 .ensures) (few _ (omega (arith, start .pre))),
+      rw (c .places4 .ensures) (few _ (omega (arith, start .pre))),
+    )
+
 mul-start : tie.Need-mul-start
 mul-start c = search needs
 
--- src/measure.rt:53:28
 add-places : tie.Need-add-places
 add-places c = search needs
 
--- src/measure.rt:53:9
 places-requires : tie.Need-places-requires
 places-requires c κs = search needs
 
--- src/measure.rt:54:28
 add-places-2 : tie.Need-add-places-2
 add-places-2 c = search needs
 
--- src/measure.rt:54:9
 places-requires-2 : tie.Need-places-requires-2
 places-requires-2 c κs = search needs
 
--- src/measure.rt:55:28
 add-places-3 : tie.Need-add-places-3
 add-places-3 c = search needs
 
--- src/measure.rt:55:9
 places-requires-3 : tie.Need-places-requires-3
 places-requires-3 c κs = search needs
 
--- src/measure.rt:56:28
 add-places-4 : tie.Need-add-places-4
 add-places-4 c = search needs
 
--- src/measure.rt:56:9
 places-requires-4 : tie.Need-places-requires-4
 places-requires-4 c κs = search needs
 
--- src/measure.rt:57:5
 add-result : tie.Need-add-result
-add-result c = ?
+add-result c = record { fits = omega (arith, small c) }
 
--- src/measure.rt:57:14
 mul-result : tie.Need-mul-result
-mul-result c = ?
+mul-result c = record { fits = omega (arith, small c) }
 
--- src/measure.rt:57:5
 add-result-2 : tie.Need-add-result-2
-add-result-2 c = ?
+add-result-2 c = record { fits = omega (arith, small c) }
 
--- src/measure.rt:57:22
 mul-result-2 : tie.Need-mul-result-2
-mul-result-2 c = ?
+mul-result-2 c = record { fits = omega (arith, small c) }
 
--- src/measure.rt:57:5
 add-result-3 : tie.Need-add-result-3
-add-result-3 c = ?
+add-result-3 c = record { fits = omega (arith, small c) }
 
--- src/measure.rt:57:5
 add-result-4 : tie.Need-add-result-4
-add-result-4 c = ?
+add-result-4 c = record { fits = omega (arith, small c) }
 
--- src/measure.rt:48:1
 returns : tie.Need-returns
 returns c = search needs
 
