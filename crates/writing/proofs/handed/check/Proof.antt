@@ -53,7 +53,7 @@ enum-told-2 : tie.Need-enum-told-2
 enum-told-2 c = search needs
 
 returns : tie.Need-returns
-returns c = 
+returns c =
     let asked = c .before .before .before in
     let faced = asked .before .before .before in
     many-refuse _ _ _ _ (sym (counted (faced .before .before .before .before)) ∙ ap quadsMeaning (faced .before .before .all .given .1))
@@ -78,7 +78,7 @@ returns-4 c =
     (sym (asked .check-groups .ensures) ∙ ap checkMeaning (c .before .number3 .given .1))
 
 returns-5 : tie.Need-returns-5
-returns-5 c = 
+returns-5 c =
     let asked = c .before .before .before in
     let faced = asked .before .before .before in
     none-refuse _ _ _ _ (sym (counted (faced .before .before .before .before)) ∙ ap quadsMeaning (faced .before .before .all .given .1))
