@@ -7,3 +7,7 @@ pub mod Taking
 pub mod Checking
 -- Of the order of the checks.
 pub mod Ordered
+-- Of what a writer leaves.
+pub mod Outcome
+-- That every public contract leaves one outcome.
+pub mod Unique
