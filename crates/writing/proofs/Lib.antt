@@ -11,3 +11,5 @@ pub mod Ordered
 pub mod Outcome
 -- That every public contract leaves one outcome.
 pub mod Unique
+-- That what greedy meshing leaves passes.
+pub mod Greedy

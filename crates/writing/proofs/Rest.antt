@@ -110,6 +110,20 @@ module _ (numbers : ℕ) (list : List ℕ) where
   unfolding meshLeft handed
   mesh-start faces counts = refl
 
+-- A mesh has as many quads as its counts say, where there is a face for each.
+pub handed-count : (numbers : ℕ) (faces : List OrientedBlockFace) (counts list : List ℕ) → length faces ≡ length counts → length (handed numbers faces counts list) ≡ total counts
+unfolding handed oriented groupsIn quadsLeft total
+handed-count numbers [] [] list h = refl
+handed-count numbers [] (count ∷ counts) list h = let none : ⊥ = omega arith in absurd none
+handed-count numbers (face ∷ faces) [] list h = let none : ⊥ = omega arith in absurd none
+handed-count numbers (face ∷ faces) (count ∷ counts) list h =
+    omega (
+      arith,
+      length-append (onFace face (itemsIn numbers quadFrom count list)) (handed numbers faces counts (drop (count * numbers) list)),
+      quads-count numbers list face 0 count,
+      handed-count numbers faces counts (drop (count * numbers) list) (omega arith),
+    )
+
 -- The counts that are left.
 pub total-next : (counts : List ℕ) (k : ℕ) → k < length counts → total (drop k counts) ≡ getD counts k 0 + total (drop (k + 1) counts)
 unfolding total
