@@ -13,3 +13,5 @@ pub mod Outcome
 pub mod Unique
 -- That what greedy meshing leaves passes.
 pub mod Greedy
+-- That the worked examples hold.
+pub mod Examples

@@ -5,5 +5,7 @@ pub mod Handed
 pub mod Written
 -- What is shown of a mesh that passes.
 pub mod Statements
+-- Worked examples.
+pub mod Examples
 -- For private contracts, those of the writers too:
 pub mod Left
