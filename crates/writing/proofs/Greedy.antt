@@ -1,7 +1,7 @@
 -- What a call of greedy meshing that answers 0 leaves is not refused by 24, 6, 12 or 13, from the contract of `greedy_quads` alone. 24: its output was long enough. 6: its entry asked for the signs. 12: every quad that it lists is within the
 -- limits. 13: a voxel that is scanned begins one quad at most, and no shape has more than 16,777,216 voxels.
 use mathlib.Core.List.{List, [], _∷_, map}
-use mathlib.Core.Path.{_≡_, refl, sym, _∙_, ap}
+use mathlib.Core.Path.{_≡_, refl, _∙_, ap}
 use Prim.Native.Nat.{ℕ, _+_, _*_, _≤_}
 use native.Mathlib.Nat.{le-of-eq, mul-le-mul, suc-mul, le-div-iff-mul-le}
 use native.Mathlib.Omega.{arith}
@@ -49,7 +49,7 @@ use Rattle.greedy.proofs.Call.{outcome-holds}
 use Rattle.greedy.proofs.greedy_quads
 use Rattle.greedy.proofs.greedy_quads.Kinds as greedy-quads-kinds
 use Rattle.greedy.proofs.greedy_quads.Reads as greedy-quads
-use Rattle.writing.specs.Handed.{onFace, oriented, handed, total, mostQuads}
+use Rattle.writing.specs.Handed.{onFace, oriented, handed, total}
 use Rattle.writing.specs.Statements.{WithinQuad, ListedPasses}
 use Rattle.writing.proofs.Rest.{group-held}
 use Rattle.writing.proofs.Ordered.{passed-order}
@@ -157,12 +157,11 @@ module _ (voxels : List ℕ) (shape min max : Point) (faces : List OrientedBlock
       let longer : length was ≤ length out = rw (ap (λ (o : MeshOutcome). o .out) laid-is) (omega (arith, length-append new (drop (length new) was), length-drop (length new) was)) in
       le-div-iff-mul-le {k = quadNumbers} (omega arith) .1 (omega (arith, group-held quadNumbers (length was) (total (r .mesh .counts)) (omega arith)))
 
-  -- They are not too many,
-  few : length faces ≡ 6 → total (r .mesh .counts) ≤ mostQuads
-  few six =
-      let inner : Extent = interior min max in
+  -- They are at most as many as six shapes have voxels,
+  pub outcome-few : length faces ≡ 6 → total (r .mesh .counts) ≤ 6 * mostVoxels
+  outcome-few six =
       let parts = greedy-passed voxels shape min max faces (length bytes) entered .0 in
-      omega (arith, fitted .1, rw six at (listed-few inner (field shape voxels) faces), points-few shape (length voxels) min max (bounds-held shape (length voxels) min max (parts .bounds)))
+      omega (arith, fitted .1, rw six at (listed-few (interior min max) (field shape voxels) faces), points-few shape (length voxels) min max (bounds-held shape (length voxels) min max (parts .bounds)))
 
   -- and so the mesh passes.
   pub outcome-handed : length faces ≡ 6 → ListedPasses faces (r .mesh .counts) out
@@ -171,13 +170,17 @@ module _ (voxels : List ℕ) (shape min max : Point) (faces : List OrientedBlock
       passed-order quadNumbers faces (r .mesh .counts) out holds
       (greedy-passed voxels shape min max faces (length bytes) entered .0 .signs)
       (meshed-within (field shape voxels) (interior min max) faces _ (outcome-holds voxels shape min max faces bytes was r bytes′ out promised zero .groups))
-      (few six)
+      (omega (arith, outcome-few six))
 
 -- ---- the contract
 
--- Of the contract of `greedy_quads` itself, whose faces are six: a call that answers 0 leaves a mesh that passes. Its output may be handed on with its counts and its faces.
-pub greedy-handed : (κs : Lifetimes.Lfts 3) (a : World.ArgsD greedy_quads.signature κs) (r : World.ResD greedy_quads.signature κs)
-    (s : Clauses.AtExit (Kinds.endedOf 3 greedy-quads-kinds.ps greedy-quads-kinds.r) κs)
-    → greedy-quads.Post κs a r s → length (a .1 .1 .1 .1 .0) ≡ 6 → r .mesh .refusal ≡ 0
-    → ListedPasses (a .1 .1 .1 .1 .0) (r .mesh .counts) (s .1 .1 .1 .1 .1 .1 .0 .now)
-greedy-handed κs a r s post six zero = outcome-handed _ _ _ _ _ _ _ _ _ _ post zero six
+-- Of the contract of `greedy_quads` itself: its arguments are the voxels, the shape, min, max, the faces, which are six, the visited bytes and the output.
+module _ (κs : Lifetimes.Lfts 3) (a : World.ArgsD greedy_quads.signature κs) (r : World.ResD greedy_quads.signature κs)
+    (s : Clauses.AtExit (Kinds.endedOf 3 greedy-quads-kinds.ps greedy-quads-kinds.r) κs) (post : greedy-quads.Post κs a r s) (six : length (a .1 .1 .1 .1 .0) ≡ 6) where
+  -- A call that answers 0 leaves a mesh that passes: its faces, its answer's counts and its output at exit,
+  pub greedy-handed : r .mesh .refusal ≡ 0 → ListedPasses (a .1 .1 .1 .1 .0) (r .mesh .counts) (s .1 .1 .1 .1 .1 .1 .0 .now)
+  greedy-handed zero = outcome-handed _ _ _ _ _ _ _ _ _ _ post zero six
+
+  -- with at most 100,663,296 quads.
+  pub greedy-few : r .mesh .refusal ≡ 0 → total (r .mesh .counts) ≤ 6 * mostVoxels
+  greedy-few zero = outcome-few _ _ _ _ _ _ _ _ _ _ post zero six
