@@ -8,7 +8,7 @@ use Rattle.geometry.specs.Refusal.{Answer, accepted, refused, Check, answer, ch
 use Rattle.geometry.specs.Checks.{badQuad}
 use Rattle.geometry.proofs.Refusals.{in-turn, place-passes, place-refuses}
 use Rattle.greedy.specs.Call.{quadFrom}
-use Rattle.writing.specs.Handed.{OrientedQuad, badQuadAt}
+use Rattle.writing.specs.Handed.{badQuadAt}
 use Rattle.writing.specs.Left.{groupLeft, groupsFrom}
 use Rattle.writing.proofs.Rest.{quadAt, group-next, group-done, Walking, groups-next, groups-done}
 

@@ -1,5 +1,5 @@
 -- The order 24, 6, 12, 13 of a mesh that is handed in: each part refuses where those before it have passed, and what a mesh that passes all of it has.
-use mathlib.Core.Bool.{true, false, not}
+use mathlib.Core.Bool.{not}
 use mathlib.Core.List.{List, [], _∷_, _++_}
 use mathlib.Core.Path.{_≡_, refl, sym, _∙_, ap}
 use Prim.Native.Nat.{ℕ, _+_, _≤_, _<_}
@@ -7,11 +7,10 @@ use lib.ListN.{length}
 use borrow.Author.Tests.{lt-ltb, le-ltb, ltb-false, not-false}
 use Rattle.geometry.specs.declared.face.OrientedBlockFace.{OrientedBlockFace}
 use Rattle.geometry.specs.Refusal.{Answer, accepted, refused, Check, answer, checked, follow}
-use Rattle.geometry.specs.Axes.{axesOf}
 use Rattle.geometry.specs.Lists.{Each}
-use Rattle.geometry.proofs.Refusals.{in-turn, applies, passes, first-passes, rest-accepts, accepts-checked, accepts-value, answer-refused}
+use Rattle.geometry.proofs.Refusals.{in-turn, applies, passes, first-passes, accepts-checked, accepts-value, answer-refused}
 use Rattle.geometry.proofs.Orders.{both-pass}
-use Rattle.voxels.specs.Checks.{badFacesFrom, badFaces}
+use Rattle.voxels.specs.Checks.{badFaces}
 use Rattle.voxels.proofs.Faces.{faces-proper}
 use Rattle.listing.specs.Listing.{capacity}
 use Rattle.writing.specs.Handed.{OrientedQuad, numbered, handed, total, pastList, badQuadAt, badQuads, mostQuads, manyQuads, handedChecks}

@@ -3,7 +3,7 @@
 // lies behind the last quad that is counted is never read.
 ghost use mathlib.Core.Path.{_≡_};
 ghost use Prim.Native.Nat.{_≤_, _+_, _*_};
-ghost use lib.ListN.{length, getD, drop};
+ghost use lib.ListN.{length, getD};
 ghost use Rattle.geometry.specs.Refusal.{answer, checked};
 ghost use Rattle.geometry.specs.Answers.{checkMeaning};
 ghost use Rattle.greedy.specs.Call.{quadFrom};

@@ -1,7 +1,6 @@
 -- `check` meets its contract: 24, then 6, then 12, then 13.
 use borrow.Author.Needs.{needs}
 use mathlib.Core.Path.{_≡_, sym, _∙_, ap}
-use native.Mathlib.Omega.{arith}
 use lib.ListN.{length}
 use Rattle.geometry.specs.Refusal.{answer}
 use Rattle.geometry.specs.Answers.{checkMeaning}

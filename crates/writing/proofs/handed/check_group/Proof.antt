@@ -1,14 +1,13 @@
 -- `check_group` meets its contract: the quads that are left decide as all of the group do.
 use borrow.Author.Needs.{needs}
 use mathlib.Core.List.{[], _∷_}
-use mathlib.Core.Path.{_≡_, refl, sym, _∙_, ap}
-use Prim.Native.Nat.{ℕ, _+_, _-_, _*_, _≤_, _<_}
+use mathlib.Core.Path.{_≡_, sym, _∙_, ap}
+use Prim.Native.Nat.{_+_, _-_, _*_, _≤_}
 use native.Mathlib.Omega.{arith}
 use lib.ListN.{length, drop}
 use Rattle.geometry.specs.Refusal.{checked}
 use Rattle.geometry.specs.Answers.{checkMeaning}
 use Rattle.geometry.specs.Checks.{badQuad}
-use Rattle.listing.specs.Listing.{capacity}
 use Rattle.greedy.specs.Call.{quadFrom}
 use Rattle.writing.specs.Handed.{badQuadAt}
 use Rattle.writing.specs.Left.{groupLeft}

@@ -1,13 +1,13 @@
 -- `check_groups` meets its contract: the groups that are left decide as all do.
 use borrow.Author.Needs.{needs}
-use mathlib.Core.Path.{_≡_, refl, sym, _∙_, ap}
-use Prim.Native.Nat.{ℕ, _+_, _-_, _*_, _≤_, _<_}
+use mathlib.Core.Path.{_≡_, sym, _∙_, ap}
+use Prim.Native.Nat.{_-_}
 use native.Mathlib.Omega.{arith}
-use lib.ListN.{length, drop}
+use lib.ListN.{length}
 use Rattle.geometry.specs.Refusal.{checked}
 use Rattle.geometry.specs.Answers.{checkMeaning}
 use Rattle.writing.specs.Handed.{badQuadAt, badQuads, handed}
-use Rattle.writing.specs.Left.{groupLeft, groupsFrom}
+use Rattle.writing.specs.Left.{groupsFrom}
 use Rattle.writing.proofs.Rest.{Walking, walking-start, walking-most, walking-on, groups-start, capacity-most}
 use Rattle.writing.proofs.Checking.{group-on, group-stops, groups-pass}
 use Rattle.writing.proofs.handed.check_groups.Statement.{statement}
