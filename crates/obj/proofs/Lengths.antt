@@ -1,9 +1,11 @@
 -- How long a text is: at most 68 bytes a quad's corners and 70 its triangles, so 138 bytes a quad, after the first line's 7.
 use mathlib.Core.List.{List, [], _∷_}
+use mathlib.Core.Path.{_≡_}
 use Prim.Native.Nat.{ℕ, _+_, _*_, _≤_, _<_}
 use native.Mathlib.Omega.{arith}
 use lib.ListN.{length, length-append}
 use Rattle.geometry.specs.declared.axis.Axis.the-variants.{X, Y, Z}
+use Rattle.geometry.specs.declared.face.OrientedBlockFace.{OrientedBlockFace}
 use Rattle.geometry.specs.declared.face.Corner.{Corner}
 use Rattle.geometry.specs.declared.face.Corner.the-variants.{MinuMinv, MaxuMaxv}
 use Rattle.geometry.specs.Point.{Point, along}
@@ -15,9 +17,13 @@ use Rattle.geometry.proofs.Limits.{limits-bounds}
 use Rattle.geometry.proofs.Corners.{corner-at-most}
 use Rattle.digits.specs.Decimal.{digits}
 use Rattle.digits.proofs.Digits.{digits-at-most}
-use Rattle.writing.specs.Handed.{OrientedQuad, numbered, mostQuads}
-use Rattle.writing.specs.Statements.{WithinQuad}
+use Rattle.greedy.specs.Greedy.{quadNumbers}
+use Rattle.writing.specs.Handed.{OrientedQuad, numbered, handed, total, mostQuads}
+use Rattle.writing.specs.Statements.{WithinQuad, ListedPasses}
+use Rattle.writing.proofs.Rest.{handed-count}
+use Rattle.writing.proofs.Ordered.{order-passed}
 use Rattle.obj.specs.Text.{cornerLines, triangleLines, bytesOf, quadText, text}
+use Rattle.obj.specs.Obj.{objText}
 use Rattle.obj.specs.Page.{pointPlaces}
 use Rattle.obj.specs.Statements.{mostBytes}
 use Rattle.obj.proofs.Measured.{corners-long, triangles-long, quad-long}
@@ -59,3 +65,10 @@ quads-at-most k (q ∷ qs) each h =
 pub length-at-most : (qs : List OrientedQuad) → Each WithinQuad qs → length qs ≤ mostQuads → length (text qs) ≤ mostBytes (length qs)
 unfolding text
 length-at-most qs each h = omega (arith, quads-at-most 0 qs each (omega arith))
+
+-- So of a mesh that is handed in and passes, by the quads that its counts claim.
+pub handed-at-most : (faces : List OrientedBlockFace) (counts list : List ℕ) → length faces ≡ length counts → ListedPasses faces counts list → length (objText faces counts list) ≤ mostBytes (total counts)
+handed-at-most faces counts list paired passed =
+    let p = order-passed quadNumbers faces counts list passed in
+    let all : length (handed quadNumbers faces counts list) ≡ total counts = handed-count quadNumbers faces counts list paired in
+    rw all at (length-at-most (handed quadNumbers faces counts list) (p .quads) (rw all (p .few)))

@@ -19,3 +19,5 @@ pub mod Going
 pub mod ReadBack
 -- The worked examples.
 pub mod Examples
+-- Of what every call leaves.
+pub mod Outcome

@@ -1,14 +1,20 @@
--- What is shown of a text beside its bytes. The proofs stand in proofs/Quads.antt, Lengths.antt and ReadBack.antt.
+-- What is shown of a text and of a call beside the bytes. The proofs stand in proofs/Quads.antt, Lengths.antt, ReadBack.antt and Outcome.antt.
 use mathlib.Core.List.{List, _++_, map}
 use mathlib.Core.Path.{_≡_}
-use Prim.Native.Nat.{ℕ, _+_, _*_, _≤_}
+use Prim.Native.Nat.{ℕ, _+_, _*_, _≤_, _<_}
+use lib.ListN.{length, take, drop}
+use Rattle.geometry.specs.declared.face.OrientedBlockFace.{OrientedBlockFace}
 use Rattle.geometry.specs.Refusal.{accepted}
 use Rattle.geometry.specs.Corners.{corners, quadCorners}
 use Rattle.geometry.specs.Vertices.{vertex, quadIndices}
 use Rattle.geometry.specs.Lists.{Each}
-use Rattle.listing.specs.Listing.{joined}
-use Rattle.writing.specs.Handed.{OrientedQuad, numbered}
+use Rattle.listing.specs.Listing.{joined, overwritten}
+use Rattle.writing.specs.declared.written.WriteAnswer.{WriteAnswer}
+use Rattle.writing.specs.Handed.{OrientedQuad, numbered, total}
+use Rattle.writing.specs.Written.{refusedAnswer, acceptedAnswer}
+use Rattle.writing.specs.Statements.{ListedPasses}
 use Rattle.obj.specs.Text.{Line, fourCorners, coordinates, indicesAt, firstTriangle, secondTriangle, triangleLines}
+use Rattle.obj.specs.Obj.{objText}
 use Rattle.obj.specs.Reader.{Meaning}
 
 -- ---- a quad's lines
@@ -45,3 +51,25 @@ triangleNumbers k q = firstTriangle (indicesAt k q) ++ secondTriangle (indicesAt
 -- Those of all quads in order: what reading a text back gives, whatever the quads are and however many (`reads-back`).
 unfoldable pub said : List OrientedQuad → Meaning
 said qs = record { corners = joined (map cornerNumbers qs); triangles = numbered triangleNumbers 0 qs }
+
+-- ---- what a call leaves
+
+-- Of any call, by its answer and its output at exit (`write-holds`):
+pub record WriteHolds (faces : List OrientedBlockFace) (counts list out : List ℕ) (r : WriteAnswer) (last : List ℕ) : Type 0 where
+  -- where it answers 0 the text stands at the output's start, and its bytes are the answer;
+  pub start : r .refusal ≡ 0 → take (r .written) last ≡ objText faces counts list
+  pub bytes : r .refusal ≡ 0 → r .written ≡ length (objText faces counts list)
+  -- "what isn't written stays", always;
+  pub stays : drop (r .written) last ≡ drop (r .written) out
+  -- where it answers anything else nothing is written;
+  pub untouched : 1 ≤ r .refusal → (r .written ≡ 0) × (last ≡ out)
+  -- 15 is given where nothing else is refused and the output is shorter than the text, and only there;
+  pub short : r .refusal ≡ 15 → ListedPasses faces counts list × (length out < length (objText faces counts list))
+  pub given : ListedPasses faces counts list → length out < length (objText faces counts list) → r ≡ refusedAnswer 15 0
+  -- and so never with room for the longest text that so many quads can have, whatever they are.
+  pub room : length faces ≡ length counts → mostBytes (total counts) ≤ length out → r .refusal ≡ 15 → ⊥
+
+-- Of a call on a mesh that passes 24, 6, 12 and 13 (`passed-writes`), as every mesh does that a greedy call which answers 0 leaves (`greedy-writes`): it writes the text, or it is refused by 15 alone.
+pub record Writes (faces : List OrientedBlockFace) (counts list out : List ℕ) (r : WriteAnswer) (last : List ℕ) : Type 0 where
+  pub enough : length (objText faces counts list) ≤ length out → (r ≡ acceptedAnswer (length (objText faces counts list))) × (last ≡ overwritten (objText faces counts list) out)
+  pub short : length out < length (objText faces counts list) → (r ≡ refusedAnswer 15 0) × (last ≡ out)
