@@ -30,6 +30,9 @@ use Rattle.writing.specs.Statements.{ListedPasses}
 use Rattle.writing.proofs.Outcome.{checks-refuse, short-refused, enough-written}
 use Rattle.writing.proofs.Greedy.{greedy-handed}
 use Rattle.obj.specs.Obj.{objText, writeObj}
+use Rattle.obj.proofs.write_obj
+use Rattle.obj.proofs.write_obj.Kinds as write-obj-kinds
+use Rattle.obj.proofs.write_obj.Reads as write-obj
 use Rattle.obj.specs.Statements.{WriteHolds, Writes}
 use Rattle.obj.proofs.Lengths.{handed-at-most}
 
@@ -154,6 +157,14 @@ module _ (faces : List OrientedBlockFace) (counts list out : List ℕ) where
           enough = λ h. parts (post ∙ enough-written checks text out passed h);
           short = λ h. parts (post ∙ short-refused checks text out passed h);
         }
+
+-- ---- the contract
+
+-- Of the contract of `write_obj` itself: its arguments are the faces, the counts, the list and the output.
+pub call-holds : (κs : Lifetimes.Lfts 2) (a : World.ArgsD write_obj.signature κs) (r : World.ResD write_obj.signature κs)
+    (s : Clauses.AtExit (Kinds.endedOf 2 write-obj-kinds.ps write-obj-kinds.r) κs)
+    → write-obj.Post κs a r s → WriteHolds (a .0) (a .1 .0) (a .1 .1 .0 .now) (a .1 .1 .1 .0 .now) r (s .1 .1 .1 .0 .now)
+call-holds κs a r s post = write-holds _ _ _ _ post
 
 -- ---- after greedy meshing
 
