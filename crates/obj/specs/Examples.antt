@@ -2,12 +2,16 @@
 use mathlib.Core.List.{List, [], _∷_, _++_}
 use mathlib.Core.Path.{_≡_}
 use Prim.Native.Nat.{ℕ}
-use lib.IntN.{ℤ, pos, negsuc}
+use lib.IntN.{ℤ}
+use lib.ListN.{set}
 use Rattle.geometry.specs.declared.axis.AxisPermutation.{AxisPermutation}
-use Rattle.geometry.specs.declared.axis.AxisPermutation.the-variants.{Xyz, Zxy, Yzx, Xzy}
+use Rattle.geometry.specs.declared.axis.AxisPermutation.the-variants.{Xyz, Xzy}
 use Rattle.geometry.specs.declared.face.OrientedBlockFace.{OrientedBlockFace}
+use Rattle.geometry.specs.Axes.{one, minusOne}
+use Rattle.rules.specs.Table.{sixFaces}
 use Rattle.digits.specs.Examples.{zs}
 use Rattle.writing.specs.Written.{WriteOutcome, outcome, refusedAnswer, acceptedAnswer}
+use Rattle.writing.specs.Examples.{counts, unsigned}
 use Rattle.obj.specs.Obj.{writeObj}
 
 -- What a call is handed, and what it leaves.
@@ -21,25 +25,17 @@ pub record Example : Type 0 where
 abbrev pub Holds : Example → Type 0
 Holds e = writeObj (e .faces) (e .counts) (e .list) (e .out) ≡ e .leaves
 
--- A face by its sign and permutation.
-abbrev pub facing : ℤ → AxisPermutation → OrientedBlockFace
-facing s p = record { «n_sign» = s; permutation = p }
-
--- A first face, then -X +Y -Y +Z, and a last.
-abbrev pub between : OrientedBlockFace → OrientedBlockFace → List OrientedBlockFace
-between first last = first ∷ facing (negsuc 0) Xyz ∷ facing (pos 1) Yzx ∷ facing (negsuc 0) Yzx ∷ facing (pos 1) Zxy ∷ last ∷ []
-
--- +X -X +Y -Y +Z -Z.
-abbrev pub six : List OrientedBlockFace
-six = between (facing (pos 1) Xyz) (facing (negsuc 0) Zxy)
+-- The canonical faces, with another in place of the first.
+abbrev pub firstly : ℤ → AxisPermutation → List OrientedBlockFace
+firstly s p = set sixFaces 0 (record { «n_sign» = s; permutation = p })
 
 -- One quad in the first group, and none in the others.
 abbrev pub oneQuad : List ℕ
-oneQuad = 1 ∷ 0 ∷ 0 ∷ 0 ∷ 0 ∷ 0 ∷ []
+oneQuad = counts 1 0 0 0 0 0
 
 -- No quads.
 abbrev pub noQuads : List ℕ
-noQuads = 0 ∷ 0 ∷ 0 ∷ 0 ∷ 0 ∷ 0 ∷ []
+noQuads = counts 0 0 0 0 0 0
 
 -- The document's quad: minimum (1, 1, 1), width 1, height 1.
 abbrev pub unit : List ℕ
@@ -150,35 +146,35 @@ loneVoxel =
 unfoldable pub examples : List Example
 examples =
     -- The document's: one quad on +X and five empty groups. Its 55 bytes just fit,
-    record { faces = six; counts = oneQuad; list = unit; out = zs 55; leaves = writes 55 theDocuments } ∷
+    record { faces = sixFaces; counts = oneQuad; list = unit; out = zs 55; leaves = writes 55 theDocuments } ∷
     -- into one byte fewer nothing is written,
-    record { faces = six; counts = oneQuad; list = unit; out = zs 54; leaves = refuses 15 0 (zs 54) } ∷
+    record { faces = sixFaces; counts = oneQuad; list = unit; out = zs 54; leaves = refuses 15 0 (zs 54) } ∷
     -- and of one more the last stays.
-    record { faces = six; counts = oneQuad; list = unit; out = zs 56; leaves = writes 55 (theDocuments ++ zs 1) } ∷
+    record { faces = sixFaces; counts = oneQuad; list = unit; out = zs 56; leaves = writes 55 (theDocuments ++ zs 1) } ∷
     -- The same quad on -X,
-    record { faces = between (facing (negsuc 0) Xyz) (facing (negsuc 0) Zxy); counts = oneQuad; list = unit; out = zs 55; leaves = writes 55 onMinusX } ∷
+    record { faces = firstly minusOne Xyz; counts = oneQuad; list = unit; out = zs 55; leaves = writes 55 onMinusX } ∷
     -- one on +X by an odd permutation,
-    record { faces = between (facing (pos 1) Xzy) (facing (negsuc 0) Zxy); counts = oneQuad; list = 1 ∷ 2 ∷ 3 ∷ 4 ∷ 5 ∷ []; out = zs 55; leaves = writes 55 byXzy } ∷
+    record { faces = firstly one Xzy; counts = oneQuad; list = 1 ∷ 2 ∷ 3 ∷ 4 ∷ 5 ∷ []; out = zs 55; leaves = writes 55 byXzy } ∷
     -- and one that ends where the largest shape does.
-    record { faces = six; counts = oneQuad; list = 255 ∷ 0 ∷ 9 ∷ 256 ∷ 1 ∷ []; out = zs 69; leaves = writes 69 atTheEdge } ∷
+    record { faces = sixFaces; counts = oneQuad; list = 255 ∷ 0 ∷ 9 ∷ 256 ∷ 1 ∷ []; out = zs 69; leaves = writes 69 atTheEdge } ∷
     -- A quad on each of the six faces.
-    record { faces = six; counts = 1 ∷ 1 ∷ 1 ∷ 1 ∷ 1 ∷ 1 ∷ []; list = unit ++ unit ++ unit ++ unit ++ unit ++ unit; out = zs 318; leaves = writes 318 loneVoxel } ∷
+    record { faces = sixFaces; counts = counts 1 1 1 1 1 1; list = unit ++ unit ++ unit ++ unit ++ unit ++ unit; out = zs 318; leaves = writes 318 loneVoxel } ∷
     -- No quads are the first line alone, whatever stands in the list,
-    record { faces = six; counts = noQuads; list = flat ++ flat; out = zs 7; leaves = writes 7 (111 ∷ 32 ∷ 109 ∷ 101 ∷ 115 ∷ 104 ∷ 10 ∷ []) } ∷
+    record { faces = sixFaces; counts = noQuads; list = flat ++ flat; out = zs 7; leaves = writes 7 (111 ∷ 32 ∷ 109 ∷ 101 ∷ 115 ∷ 104 ∷ 10 ∷ []) } ∷
     -- and 6 bytes are too short for it.
-    record { faces = six; counts = noQuads; list = []; out = zs 6; leaves = refuses 15 0 (zs 6) } ∷
+    record { faces = sixFaces; counts = noQuads; list = []; out = zs 6; leaves = refuses 15 0 (zs 6) } ∷
     -- Nine numbers hold one quad, and not two.
-    record { faces = six; counts = 2 ∷ 0 ∷ 0 ∷ 0 ∷ 0 ∷ 0 ∷ []; list = unit ++ (1 ∷ 1 ∷ 1 ∷ 1 ∷ []); out = zs 200; leaves = refuses 24 0 (zs 200) } ∷
+    record { faces = sixFaces; counts = counts 2 0 0 0 0 0; list = unit ++ (1 ∷ 1 ∷ 1 ∷ 1 ∷ []); out = zs 200; leaves = refuses 24 0 (zs 200) } ∷
     -- Counts are summed as numbers: 2 ^ 64 - 1 and 1 are not 0.
-    record { faces = six; counts = 18_446_744_073_709_551_615 ∷ 1 ∷ 0 ∷ 0 ∷ 0 ∷ 0 ∷ []; list = []; out = zs 7; leaves = refuses 24 0 (zs 7) } ∷
+    record { faces = sixFaces; counts = counts 18_446_744_073_709_551_615 1 0 0 0 0; list = []; out = zs 7; leaves = refuses 24 0 (zs 7) } ∷
     -- A list too short, the last face's sign 0, a quad of width 0 and no output: 24 is given,
-    record { faces = between (facing (pos 1) Xyz) (facing (pos 0) Zxy); counts = oneQuad; list = 1 ∷ 1 ∷ 1 ∷ 0 ∷ []; out = []; leaves = refuses 24 0 [] } ∷
+    record { faces = unsigned 5 sixFaces; counts = oneQuad; list = 1 ∷ 1 ∷ 1 ∷ 0 ∷ []; out = []; leaves = refuses 24 0 [] } ∷
     -- with that mended 6, though the last face's group is empty,
-    record { faces = between (facing (pos 1) Xyz) (facing (pos 0) Zxy); counts = oneQuad; list = flat; out = []; leaves = refuses 6 5 [] } ∷
+    record { faces = unsigned 5 sixFaces; counts = oneQuad; list = flat; out = []; leaves = refuses 6 5 [] } ∷
     -- then 12,
-    record { faces = six; counts = oneQuad; list = flat; out = []; leaves = refuses 12 0 [] } ∷
+    record { faces = sixFaces; counts = oneQuad; list = flat; out = []; leaves = refuses 12 0 [] } ∷
     -- and then 15.
-    record { faces = six; counts = oneQuad; list = unit; out = []; leaves = refuses 15 0 [] } ∷
+    record { faces = sixFaces; counts = oneQuad; list = unit; out = []; leaves = refuses 15 0 [] } ∷
     -- A quad's number runs on through the groups: the first of the second group is quad 1.
-    record { faces = six; counts = 1 ∷ 1 ∷ 0 ∷ 0 ∷ 0 ∷ 0 ∷ []; list = unit ++ flat; out = zs 200; leaves = refuses 12 1 (zs 200) } ∷
+    record { faces = sixFaces; counts = counts 1 1 0 0 0 0; list = unit ++ flat; out = zs 200; leaves = refuses 12 1 (zs 200) } ∷
     []
