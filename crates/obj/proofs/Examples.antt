@@ -16,8 +16,8 @@ use Rattle.writing.specs.Handed.{oriented, numbered, handed, total, handedCheck
 use Rattle.writing.specs.Written.{writtenAfter}
 use Rattle.obj.specs.Text.{spaced, bytes, quadText, text}
 use Rattle.obj.specs.Obj.{writeObj}
-use Rattle.obj.specs.Examples.{Holds, examples}
+use Rattle.obj.specs.Examples.{line, Holds, examples}
 
 pub examples-hold : Each Holds examples
-unfolding examples Each writeObj writtenAfter overwritten handedChecks answer total capacity badFacesFrom properSign same handed oriented groupsIn itemsIn quadFrom numbered withinLimits minimumWithinLimits sideWithinLimits text quadText bytes spaced joined digits digitsWithin base corner along put moved
+unfolding examples line Each writeObj writtenAfter overwritten handedChecks answer total capacity badFacesFrom properSign same handed oriented groupsIn itemsIn quadFrom numbered withinLimits minimumWithinLimits sideWithinLimits text quadText bytes spaced joined digits digitsWithin base corner along put moved
 examples-hold = (refl, (refl, (refl, (refl, (refl, (refl, (refl, (refl, (refl, (refl, (refl, (refl, (refl, (refl, (refl, (refl, tt))))))))))))))))
