@@ -30,7 +30,7 @@ use Rattle.obj.proofs.Measured.{corners-long, triangles-long, quad-long
 
 -- ---- a quad
 
--- A number up to the largest axis has at most four digits, and so has each coordinate of a point that is not past it.
+-- A number below 10,000 has at most four digits, and so has each coordinate of a point that is not past the largest axis.
 places-at-most : (p : Point) → AtMost largestAxis p → pointPlaces p ≤ 12
 unfolding along
 places-at-most p most =

@@ -33,8 +33,10 @@ use Rattle.obj.specs.Obj.{objText, writeObj}
 use Rattle.obj.proofs.write_obj
 use Rattle.obj.proofs.write_obj.Kinds as write-obj-kinds
 use Rattle.obj.proofs.write_obj.Reads as write-obj
+use Rattle.obj.specs.Reader.{meaning}
 use Rattle.obj.specs.Statements.{WriteHolds, Writes}
 use Rattle.obj.proofs.Lengths.{handed-at-most}
+use Rattle.obj.proofs.ReadBack.{reads-back}
 
 -- ---- the numbers that a list's checks give
 
@@ -121,6 +123,7 @@ module _ (faces : List OrientedBlockFace) (counts list out : List ℕ) where
       (λ n p e. record {
         start = λ is. absurd (never faces counts list 0 refl e is);
         bytes = λ is. absurd (never faces counts list 0 refl e is);
+        reads = λ is. absurd (never faces counts list 0 refl e is);
         stays = refl;
         untouched = λ some. (refl, refl);
         short = λ is. absurd (never faces counts list 15 refl e is);
@@ -130,6 +133,7 @@ module _ (faces : List OrientedBlockFace) (counts list out : List ℕ) where
       (λ passed less. record {
         start = λ is. absurd (omega arith);
         bytes = λ is. absurd (omega arith);
+        reads = λ is. absurd (omega arith);
         stays = refl;
         untouched = λ some. (refl, refl);
         short = λ is. (passed, less);
@@ -139,6 +143,7 @@ module _ (faces : List OrientedBlockFace) (counts list out : List ℕ) where
       (λ passed most. record {
         start = λ is. take-append-seam text (drop (length text) out);
         bytes = λ is. refl;
+        reads = λ is. ap meaning (take-append-seam text (drop (length text) out)) ∙ reads-back (handed quadNumbers faces counts list);
         stays = drop-at text (drop (length text) out) (length text) refl;
         untouched = λ some. absurd (omega arith);
         short = λ is. absurd (omega arith);

@@ -9,13 +9,14 @@ use Rattle.geometry.specs.Corners.{corners, quadCorners}
 use Rattle.geometry.specs.Vertices.{vertex, quadIndices}
 use Rattle.geometry.specs.Lists.{Each}
 use Rattle.listing.specs.Listing.{joined, overwritten}
+use Rattle.greedy.specs.Greedy.{quadNumbers}
 use Rattle.writing.specs.declared.written.WriteAnswer.{WriteAnswer}
-use Rattle.writing.specs.Handed.{OrientedQuad, numbered, total}
+use Rattle.writing.specs.Handed.{OrientedQuad, numbered, handed, total}
 use Rattle.writing.specs.Written.{refusedAnswer, acceptedAnswer}
 use Rattle.writing.specs.Statements.{ListedPasses}
 use Rattle.obj.specs.Text.{Line, fourCorners, coordinates, indicesAt, firstTriangle, secondTriangle, triangleLines}
 use Rattle.obj.specs.Obj.{objText}
-use Rattle.obj.specs.Reader.{Meaning}
+use Rattle.obj.specs.Reader.{Meaning, meaning}
 
 -- ---- a quad's lines
 
@@ -59,6 +60,8 @@ pub record WriteHolds (faces : List OrientedBlockFace) (counts list out : List �
   -- where it answers 0 the text stands at the output's start, and its bytes are the answer;
   pub start : r .refusal ≡ 0 → take (r .written) last ≡ objText faces counts list
   pub bytes : r .refusal ≡ 0 → r .written ≡ length (objText faces counts list)
+  -- it reads back as the mesh that was handed in;
+  pub reads : r .refusal ≡ 0 → meaning (take (r .written) last) ≡ said (handed quadNumbers faces counts list)
   -- "what isn't written stays", always;
   pub stays : drop (r .written) last ≡ drop (r .written) out
   -- where it answers anything else nothing is written;
