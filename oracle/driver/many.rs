@@ -8,7 +8,7 @@ use std::ptr::null_mut;
 
 extern "C" {
     fn memfd_create(name: *const u8, flags: u32) -> i32;
-    fn write(file: i32, bytes: *const c_void, length: usize) -> isize;
+    fn write(file: i32, bytes: *const u8, length: usize) -> isize;
     fn mmap(at: *mut c_void, length: usize, protection: i32, flags: i32, file: i32, offset: i64) -> *mut c_void;
 }
 
@@ -36,7 +36,7 @@ fn ones() -> *mut u32 {
     let list = mapped(null_mut(), PIECE * PIECES, 0, PRIVATE | ANONYMOUS | NORESERVE, -1) as *mut u8;
     unsafe {
         let file = memfd_create(b"ones\0".as_ptr(), 0);
-        assert!(write(file, piece.as_ptr() as *const c_void, PIECE) == PIECE as isize, "no file of ones");
+        assert!(write(file, piece.as_ptr() as *const u8, PIECE) == PIECE as isize, "no file of ones");
         for i in 0..PIECES {
             mapped(list.add(PIECE * i) as *mut c_void, PIECE, READ | WRITE, PRIVATE | FIXED | NORESERVE, file);
         }
