@@ -1,5 +1,5 @@
-/* Two plain writers of an OBJ text, which bench/run measures beside the product's: one by fprintf, and one that makes its
- * digits itself. Neither looks at whether its list is good, nor at whether its output is long enough. */
+/* Two plain writers of an OBJ text, which bench/run measures beside the product's: one by fprintf, and one that makes
+ * its digits itself. Neither looks at whether its list is good, nor at whether its output is long enough. */
 #include <stdint.h>
 #include <stdio.h>
 #include <stdlib.h>
@@ -26,7 +26,8 @@ static void corners(int32_t sign, int32_t permutation, const uint32_t quad[5], u
     }
 }
 
-/* The two triangles of a quad, by its vertices' numbers from 1; the second row is for a face whose sign is its permutation's. */
+/* The two triangles of a quad, by its vertices' numbers from 1. The second row is for a face whose sign is its
+ * permutation's. */
 static const uint32_t triangles[2][6] = {{1, 3, 2, 2, 3, 4}, {1, 2, 3, 2, 4, 3}};
 
 static const uint32_t *triangles_of(int32_t sign, int32_t permutation)
@@ -54,7 +55,8 @@ static void print_obj(FILE *file, const int32_t faces[12], const uint64_t counts
 }
 
 /* The text in memory. */
-size_t fprintf_to_memory(const int32_t faces[12], const uint64_t counts[6], const uint32_t *quads, char *out, size_t out_len)
+size_t fprintf_to_memory(const int32_t faces[12], const uint64_t counts[6], const uint32_t *quads, char *out,
+                         size_t out_len)
 {
     FILE *file = fmemopen(out, out_len, "w");
     if (file == NULL)

@@ -1,7 +1,7 @@
 /* A second reading of document 02, request 1 (Wavefront OBJ), written apart from the product. It is not the oracle.
 
    It makes the text line by line by the C library's own formatting, in memory of its own, and copies it to the output only
-   whole, where it fits. Corners, indices and quad limits are those of the second reading of document 01 (geometry.c). It is slow. */
+   whole, where it fits. Corners, indices and quad limits are those of the second reading of document 01 (geometry.c). */
 #include "reading.h"
 #include <inttypes.h>
 #include <stdio.h>
@@ -70,9 +70,10 @@ static void add_line(struct text *t, char what, uint32_t a, uint32_t b, uint32_t
 static bool add_quad(int32_t sign, uint32_t permutation, const uint32_t quad[5], uint64_t number, void *with) {
     struct text *t = with;
     uint32_t at[12], i[6];
-    if (reading_corners(sign, permutation, quad, at) != 0 || reading_indices(sign, permutation, (uint32_t)(4 * number), i) != 0) abort();
-    for (int corner = 0; corner < 4; corner++) add_line(t, 'v', at[3 * corner], at[3 * corner + 1], at[3 * corner + 2]);
-    for (int triangle = 0; triangle < 2; triangle++) add_line(t, 'f', i[3 * triangle] + 1, i[3 * triangle + 1] + 1, i[3 * triangle + 2] + 1);
+    if (reading_corners(sign, permutation, quad, at) != 0) abort();
+    if (reading_indices(sign, permutation, (uint32_t)(4 * number), i) != 0) abort();
+    for (int k = 0; k < 12; k += 3) add_line(t, 'v', at[k], at[k + 1], at[k + 2]);
+    for (int k = 0; k < 6; k += 3) add_line(t, 'f', i[k] + 1, i[k + 1] + 1, i[k + 2] + 1);
     return too_long(t);
 }
 
