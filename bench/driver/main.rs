@@ -2,11 +2,11 @@
 //! written so many times by one writer, or by all in turn.
 //!
 //!     bench greedy|unit BLOCK SIZE REPEATS rust|ours|both
-//!     bench obj BLOCK SIZE REPEATS fprintf|digits|ours|exact|all
+//!     bench obj BLOCK SIZE REPEATS fprintf|digits|ours|exact|short|all
 //!
 //! It writes one line. For one side: how many quads the last call gave, and a number made of all their numbers in order, which two equal lists share.
 //! For both: these for the Rust, these for ours, and the median time of a call for each, in nanoseconds. For a writer: how many
-//! quads and how many bytes. For all: these, once the four texts are seen to be the same, and the median time of each.
+//! quads and how many bytes. For all: these, once the texts are seen to be the same, and the median time of each writer.
 
 mod blocks;
 mod sides;
@@ -19,7 +19,7 @@ use texts::{Texts, WRITERS};
 fn main() {
     if run().is_none() {
         eprintln!("bench greedy|unit empty|solid|sphere|checkered|random|terrain SIZE REPEATS rust|ours|both");
-        eprintln!("bench obj empty|solid|sphere|checkered|random|terrain SIZE REPEATS fprintf|digits|ours|exact|all");
+        eprintln!("bench obj empty|solid|sphere|checkered|random|terrain SIZE REPEATS fprintf|digits|ours|exact|short|all");
         std::process::exit(2);
     }
 }
@@ -74,7 +74,7 @@ fn written(task: &Task, repeats: usize, by: &str) -> Option<()> {
         eprintln!("bench: obj: the text by {} is not the one by fprintf, from byte {} on", name, at);
         std::process::exit(1);
     }
-    let mut times = [(); 4].map(|_| Vec::new());
+    let mut times = WRITERS.map(|_| Vec::new());
     // the first of each is not timed
     for turn in 0..repeats + 1 {
         for (&(_, writer), times) in WRITERS.iter().zip(&mut times) {

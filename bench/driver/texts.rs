@@ -23,10 +23,17 @@ pub enum Writer {
     Ours,
     /// The product, lent exactly as many bytes as this text has.
     Exact,
+    /// The product, lent one byte less: it looks at the list and measures the text, and refuses by 15.
+    Short,
 }
 
-pub const WRITERS: [(&str, Writer); 4] =
-    [("fprintf", Writer::Fprintf), ("digits", Writer::Digits), ("ours", Writer::Ours), ("exact", Writer::Exact)];
+pub const WRITERS: [(&str, Writer); 5] = [
+    ("fprintf", Writer::Fprintf),
+    ("digits", Writer::Digits),
+    ("ours", Writer::Ours),
+    ("exact", Writer::Exact),
+    ("short", Writer::Short),
+];
 
 /// A block's greedy quads, and an output that each writer writes to.
 pub struct Texts {
@@ -47,11 +54,20 @@ impl Texts {
         texts
     }
 
+    /// How many bytes of output a writer is lent.
+    fn room(&self, writer: Writer) -> usize {
+        match writer {
+            Writer::Exact => self.bytes,
+            Writer::Short => self.bytes - 1,
+            _ => self.out.len(),
+        }
+    }
+
     /// Writes the text once more. The text by fprintf goes to /dev/null.
     #[inline(never)]
     pub fn write(&mut self, writer: Writer) {
         let (faces, counts, list) = (FACES.as_ptr(), self.counts.as_ptr(), self.list.as_ptr());
-        let room = if let Writer::Exact = writer { self.bytes } else { self.out.len() };
+        let room = self.room(writer);
         let mut answer = [0; 3];
         unsafe {
             match writer {
@@ -59,25 +75,25 @@ impl Texts {
                 Writer::Digits => {
                     digits_to_memory(faces, counts, list, self.out.as_mut_ptr());
                 }
-                Writer::Ours | Writer::Exact => {
+                Writer::Ours | Writer::Exact | Writer::Short => {
                     spunmarrow_write_obj(faces, counts, list, self.list.len(), self.out.as_mut_ptr(), room, answer.as_mut_ptr())
                 }
             }
         }
-        assert_eq!(answer[0], 0, "refused");
+        assert_eq!(answer[0], if let Writer::Short = writer { 15 } else { 0 }, "another answer");
     }
 
     /// The text that a writer writes, all of it.
     fn text(&self, writer: Writer) -> Vec<u8> {
         let (faces, counts, list) = (FACES.as_ptr(), self.counts.as_ptr(), self.list.as_ptr());
-        let mut out = vec![0; if let Writer::Exact = writer { self.bytes } else { self.out.len() }];
+        let mut out = vec![0; self.room(writer)];
         let (start, room) = (out.as_mut_ptr(), out.len());
         let mut answer = [0; 3];
         let bytes = unsafe {
             match writer {
                 Writer::Fprintf => fprintf_to_memory(faces, counts, list, start, room),
                 Writer::Digits => digits_to_memory(faces, counts, list, start),
-                Writer::Ours | Writer::Exact => {
+                Writer::Ours | Writer::Exact | Writer::Short => {
                     spunmarrow_write_obj(faces, counts, list, self.list.len(), start, room, answer.as_mut_ptr());
                     answer[2] as usize
                 }
@@ -87,10 +103,12 @@ impl Texts {
         out
     }
 
-    /// The first writer whose text is not that of fprintf, byte for byte, and the first byte where it is not.
+    /// The first writer whose text is not that of fprintf, byte for byte, and the first byte where it is not. The output that is
+    /// one byte short gets no text.
     pub fn other(&self) -> Option<(&'static str, usize)> {
         let first = self.text(Writer::Fprintf);
         let differs = |text: &[u8]| (0..text.len().max(first.len())).find(|&i| text.get(i) != first.get(i));
-        WRITERS.iter().find_map(|&(name, writer)| differs(&self.text(writer)).map(|at| (name, at)))
+        let mut all = WRITERS.iter().filter(|(_, writer)| !matches!(writer, Writer::Short));
+        all.find_map(|&(name, writer)| differs(&self.text(writer)).map(|at| (name, at)))
     }
 }
