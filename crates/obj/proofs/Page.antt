@@ -64,10 +64,14 @@ room-second {a} b h w = record { fits = omega (arith, h .fits, length-append a b
 pub room-as : {a b out : List ℕ} {at : ℕ} → a ≡ b → Room a out at → Room b out at
 room-as {a} {b} {out} {at} e h = record { fits = omega (arith, h .fits, ap length e) }
 
--- Bytes written from the start of an output that has room for them overwrite it.
+-- Bytes written from the start of an output that has room for them overwrite it,
 pub wrote-whole : {new out out′ : List ℕ} {at′ : ℕ} → length new ≤ length out → Wrote new out 0 out′ at′ → out′ ≡ overwritten new out
 unfolding put
 wrote-whole {new} {out} fits w = ap (λ (p : Page). p .out) (w .is) ∙ set-all-after new [] out fits
+
+-- and so many are written.
+pub wrote-end : {new out out′ : List ℕ} {at′ : ℕ} → Wrote new out 0 out′ at′ → at′ ≡ length new
+wrote-end w = omega (arith, wrote-at w)
 
 -- ---- what is left to write
 

@@ -2,7 +2,7 @@
 // four `v` lines with its corners and two `f` lines with its vertex numbers, counted from 1.
 //
 // The call promises its whole outcome for any input, by one equation with a definition of specs/, and
-// requires nothing. It checks the mesh, measures its text, and then writes it.
+// requires nothing. It checks the mesh, looks whether its text fits, and then writes it.
 mod measure;
 mod put;
 
@@ -28,13 +28,12 @@ pub fn write_obj(
 {
     match handed::check_listed(faces, counts, quads) {
         QuadsAnswer::Refused(number, place) => written::refused(number, place),
-        QuadsAnswer::Quads(_) => {
-            let length = measure::mesh(faces, counts, quads);
-            if out.len() < length {
+        QuadsAnswer::Quads(all) => {
+            if !measure::fits(faces, counts, quads, all, out.len()) {
                 return written::refused(written::SHORT_OUTPUT, 0);
             }
-            put::mesh(faces, counts, quads, out);
-            written::accepted(length as u64)
+            let end = put::mesh(faces, counts, quads, out);
+            written::accepted(end as u64)
         }
     }
 }

@@ -1,11 +1,12 @@
-// How many bytes the text of a mesh has, before any of it is written.
+// How many bytes the text of a mesh has, and whether it fits an output, before any of it is written.
 ghost use mathlib.Core.Path.{_≡_};
 ghost use Prim.Native.Nat.{_*_, _<_, _≤_};
+ghost use lib.Dec.{leb};
 ghost use lib.ListN.{length};
 ghost use Rattle.geometry.specs.Point.{at};
 ghost use Rattle.geometry.specs.Refusal.{accepted, checked};
 ghost use Rattle.greedy.specs.Greedy.{quadNumbers};
-ghost use Rattle.writing.specs.Handed.{mostQuads, listedChecks};
+ghost use Rattle.writing.specs.Handed.{total, mostQuads, listedChecks};
 ghost use Rattle.obj.specs.Text.{cornerLines, bytesOf, quadText};
 ghost use Rattle.obj.specs.Obj.{objText};
 ghost use Rattle.obj.specs.Page.{on, pointPlaces, trianglesLong, Drawable, GroupReady, groupText};
@@ -17,6 +18,9 @@ use writing::handed;
 
 // The bytes of the first line.
 const HEAD: usize = 7;
+
+// The most bytes of a quad's lines.
+const MOST_QUAD: u64 = 138;
 
 // The digits of a point's coordinates.
 fn places(x: u32, y: u32, z: u32) -> usize
@@ -85,7 +89,7 @@ fn group(face: OrientedBlockFace, quads: &[u32], first: usize, count: usize) -> 
 }
 
 // The text of a mesh that has passed its checks.
-pub(crate) fn mesh(faces: [OrientedBlockFace; 6], counts: [u64; 6], quads: &[u32]) -> usize
+fn mesh(faces: [OrientedBlockFace; 6], counts: [u64; 6], quads: &[u32]) -> usize
     requires { ⌜ checked (listedChecks faces counts (now quads)) ≡ accepted tt ⌝ }
     ensures { λ r. ⌜ r ≡ length (objText faces counts (now (quads .entry))) ⌝ }
 {
@@ -100,4 +104,24 @@ pub(crate) fn mesh(faces: [OrientedBlockFace; 6], counts: [u64; 6], quads: &[u32
         k += 1;
     }
     length
+}
+
+// Whether the text of a mesh that has passed its checks, with so many quads, fits a room. Where there is
+// room for any text of so many quads nothing is measured.
+pub(crate) fn fits(
+    faces: [OrientedBlockFace; 6],
+    counts: [u64; 6],
+    quads: &[u32],
+    all: u64,
+    room: usize,
+) -> bool
+    requires { ⌜ checked (listedChecks faces counts (now quads)) ≡ accepted tt ⌝ }
+    requires { ⌜ all ≡ total counts ⌝ }
+    ensures { λ r. ⌜ r ≡ leb (length (objText faces counts (now (quads .entry)))) room ⌝ }
+{
+    let most = HEAD as u64 + MOST_QUAD * all;
+    if most <= room as u64 {
+        return true;
+    }
+    mesh(faces, counts, quads) <= room
 }

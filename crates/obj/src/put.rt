@@ -6,7 +6,6 @@ ghost use Prim.Native.Nat.{_*_, _+_, _<_, _≤_};
 ghost use lib.ListN.{length};
 ghost use Rattle.geometry.specs.Refusal.{accepted, checked};
 ghost use Rattle.greedy.specs.Greedy.{quadNumbers};
-ghost use Rattle.listing.specs.Listing.{overwritten};
 ghost use Rattle.writing.specs.Handed.{mostQuads, listedChecks};
 ghost use Rattle.obj.specs.Text as spec;
 ghost use Rattle.obj.specs.Text.{cornerLine, triangleLine, cornerLines, triangleLines, bytesOf, quadText};
@@ -143,16 +142,16 @@ fn group(
     next
 }
 
-// The text of a mesh that has passed its checks, in an output that has room for it.
+// The text of a mesh that has passed its checks, from the start of an output that has room for it.
 pub(crate) fn mesh(
     faces: [OrientedBlockFace; 6],
     counts: [u64; 6],
     quads: &[u32],
     out: &mut [u8],
-)
+) -> usize
     requires { ⌜ checked (listedChecks faces counts (now quads)) ≡ accepted tt ⌝ }
     requires { ⌜ length (objText faces counts (now quads)) ≤ length (now out) ⌝ }
-    ensures { λ _. ⌜ now (out .exit) ≡ overwritten (objText faces counts (now (quads .entry))) (now (out .entry)) ⌝ }
+    ensures { λ r. ⌜ Wrote (objText faces counts (now (quads .entry))) (now (out .entry)) 0 (now (out .exit)) r ⌝ }
 {
     let mut next = bytes(b"o mesh\n", out, 0);
     let mut first: usize = 0;
@@ -164,4 +163,5 @@ pub(crate) fn mesh(
         first += count;
         k += 1;
     }
+    next
 }

@@ -1,17 +1,21 @@
--- `write_obj` meets its contract: it checks the mesh, measures its text, and writes it where there is room.
+-- `write_obj` meets its contract: it checks the mesh, looks whether its text fits, and writes it where it does.
 use borrow.Author.Needs.{needs}
+use mathlib.Core.Bool.{Bool, true, false}
 use mathlib.Core.List.{List}
 use mathlib.Core.Path.{_≡_, sym, _∙_, ap}
 use Prim.Native.Nat.{ℕ, _≤_, _<_}
+use lib.Dec.{leb}
 use lib.ListN.{length}
+use borrow.Author.Tests.{leb-true, leb-false, not-true, not-false}
 use Rattle.geometry.specs.declared.face.OrientedBlockFace.{OrientedBlockFace}
 use Rattle.geometry.specs.Refusal.{accepted, refused, checked}
-use Rattle.geometry.proofs.Refusals.{accepts-checked, answer-refused}
+use Rattle.geometry.proofs.Refusals.{accepts-checked, accepts-value, answer-refused}
 use Rattle.listing.specs.Listing.{overwritten}
 use Rattle.writing.specs.Handed.{total, listedChecks, quadsMeaning}
 use Rattle.writing.specs.Written.{outcome, refusedAnswer, acceptedAnswer}
 use Rattle.writing.proofs.Outcome.{checks-refuse, short-refused, enough-written}
 use Rattle.obj.specs.Obj.{objText, writeObj}
+use Rattle.obj.proofs.Page.{wrote-end, wrote-whole}
 use Rattle.obj.proofs.write_obj.Statement.{statement}
 use Rattle.obj.proofs.write_obj.Tie as tie
 
@@ -31,11 +35,21 @@ module _ (faces : List OrientedBlockFace) (counts list out : List ℕ) where
   unfolding writeObj
   writes e h = enough-written (listedChecks faces counts list) (objText faces counts list) out e h
 
--- Where the mesh has quads its checks have passed.
-passed : (c : tie.After-enum-told) → let a = c .before .before .before .before .before .args in checked (listedChecks (a .faces) (a .counts) (a .quads .now)) ≡ accepted tt
+-- Where the mesh has quads its checks have passed,
+passed : (c : tie.After-known-told2) → let a = c .before .before .before .before .before .before .args in checked (listedChecks (a .faces) (a .counts) (a .quads .now)) ≡ accepted tt
 passed c =
-    let a = c .before .before .before .before .before .args in
-    accepts-checked (listedChecks (a .faces) (a .counts) (a .quads .now)) (total (a .counts)) (sym (c .before .before .check-listed .ensures) ∙ ap quadsMeaning (c .enum-told .given .1))
+    let a = c .before .before .before .before .before .before .args in
+    accepts-checked (listedChecks (a .faces) (a .counts) (a .quads .now)) (total (a .counts)) (sym (c .before .before .before .check-listed .ensures) ∙ ap quadsMeaning (c .before .all .given .1))
+
+-- and so many quads it has.
+summed : (c : tie.After-known-told2) → c .before .all .given .0 .0 ≡ total (c .before .before .before .before .before .before .args .counts)
+summed c =
+    let a = c .before .before .before .before .before .before .args in
+    sym (accepts-value (listedChecks (a .faces) (a .counts) (a .quads .now)) (total (a .counts)) (sym (c .before .before .before .check-listed .ensures) ∙ ap quadsMeaning (c .before .all .given .1)))
+
+-- Whether the text fits.
+fit : (c : tie.After-fits2) → {b : Bool} → c .fits2 .result ≡ b → let a = c .before .before .before .before .before .before .before .args in leb (length (objText (a .faces) (a .counts) (a .quads .now))) (length (a .out .now)) ≡ b
+fit c e = sym (c .fits2 .ensures) ∙ e
 
 -- ---- the needs
 
@@ -48,26 +62,26 @@ enum-known-number c = search needs
 refused-requires : tie.Need-refused-requires
 refused-requires c κs = search needs
 
-enum-told : tie.Need-enum-told
-enum-told c = search needs
+enum-known-all : tie.Need-enum-known-all
+enum-known-all c = search needs
 
-mesh-requires : tie.Need-mesh-requires
-mesh-requires c κs = passed c
+fits-requires : tie.Need-fits-requires
+fits-requires c κs = (passed c, summed c)
 
 refused-requires-2 : tie.Need-refused-requires-2
 refused-requires-2 c κs = search needs
 
 returns : tie.Need-returns
 returns c = 
-    let told = c .before .before .before in
-    let a = told .before .before .before .before .before .args in
+    let asked = c .before .before in
+    let a = asked .before .before .before .before .before .before .before .args in
     ap (λ r. outcome r (a .out .now)) (c .refused2 .ensures)
-    ∙ sym (short (a .faces) (a .counts) (a .quads .now) (a .out .now) (passed told) (rw (c .before .before .mesh .ensures) at (c .before .if1 .taken)))
+    ∙ sym (short (a .faces) (a .counts) (a .quads .now) (a .out .now) (passed (asked .before)) (leb-false _ _ (fit asked (not-true _ (c .before .if1 .taken)))))
 
-mesh-requires-2 : tie.Need-mesh-requires-2
-mesh-requires-2 c κs = 
-    let told = c .before .before .before in
-    (passed told, rw (c .before .before .mesh .ensures) at (c .before .if1 .left))
+mesh-requires : tie.Need-mesh-requires
+mesh-requires c κs = 
+    let asked = c .before .before in
+    (passed (asked .before), leb-true _ _ (fit asked (not-false _ (c .before .if1 .left))))
 
 accepted-requires : tie.Need-accepted-requires
 accepted-requires c κs = search needs
@@ -83,12 +97,12 @@ same-length c = search needs
 
 returns-3 : tie.Need-returns-3
 returns-3 c = 
-    let measured = c .before .before .before .before .before .before in
-    let told = measured .before in
-    let a = told .before .before .before .before .before .args in
-    ap (λ r. outcome r (c .before .before .before .mesh2 .last .1 .1 .1 .0)) (c .accepted .ensures)
-    ∙ rw (measured .mesh .ensures, c .before .before .before .mesh2 .ensures)
-    (sym (writes (a .faces) (a .counts) (a .quads .now) (a .out .now) (passed told) (rw (measured .mesh .ensures) at (c .before .before .before .before .before .if1 .left))))
+    let wrote = c .before .before .before in
+    let asked = wrote .before .before .before in
+    let a = asked .before .before .before .before .before .before .before .args in
+    let enough = leb-true _ _ (fit asked (not-false _ (wrote .before .before .if1 .left))) in
+    ap (λ r. outcome r (wrote .mesh .last .1 .1 .1 .0)) (c .accepted .ensures)
+    ∙ rw (wrote-end (wrote .mesh .ensures), wrote-whole enough (wrote .mesh .ensures)) (sym (writes (a .faces) (a .counts) (a .quads .now) (a .out .now) (passed (asked .before)) enough))
 
 pub write-obj-spec : {M : Type 1} → statement M
 write-obj-spec =
@@ -97,11 +111,11 @@ write-obj-spec =
     check-listed-requires
     enum-known-number
     refused-requires
-    enum-told
-    mesh-requires
+    enum-known-all
+    fits-requires
     refused-requires-2
     returns
-    mesh-requires-2
+    mesh-requires
     accepted-requires
     returns-2
     same-length

@@ -9,7 +9,7 @@ use Rattle.greedy.specs.Greedy.{quadNumbers}
 use Rattle.obj.specs.Text.{quadText, firstLine}
 use Rattle.obj.specs.Obj.{objText}
 use Rattle.obj.specs.Page.{groupText, Room}
-use Rattle.obj.proofs.Page.{Leads, leads-start, leads-on, leads-done, leads-length, leads-room, room-first, room-second, room-as, wrote-both, wrote-as, wrote-length, wrote-whole}
+use Rattle.obj.proofs.Page.{Leads, leads-start, leads-on, leads-done, leads-length, leads-room, room-first, room-second, room-as, wrote-both, wrote-as, wrote-length}
 use Rattle.obj.proofs.Going.{Meshing, leftFrom, meshing-start, meshing-ready, meshing-on, meshing-few, text-start, from-next, from-done}
 use Rattle.obj.proofs.put.mesh.Statement.{statement}
 use Rattle.obj.proofs.put.mesh.Tie as tie
@@ -87,8 +87,7 @@ returns c =
     let start = c .before .before .before .before .before .before .before .before .before in
     let l = c .before .loop in
     let a = start .args in
-    wrote-whole (start .pre .1)
-    (wrote-as (sym (text-start (a .quads .now) (a .t1) (a .t2))) (wrote-both (c .before .before .before .before .bytes .ensures) (leads-done (l .inv .1) (from-done (l .inv .0) (c .loop-test .left)))))
+    wrote-as (sym (text-start (a .quads .now) (a .t1) (a .t2))) (wrote-both (c .before .before .before .before .bytes .ensures) (leads-done (l .inv .1) (from-done (l .inv .0) (c .loop-test .left))))
 
 pub mesh-spec : {M : Type 1} → statement M
 mesh-spec =
