@@ -21,3 +21,5 @@ pub mod ReadBack
 pub mod Examples
 -- Of what every call leaves.
 pub mod Outcome
+-- That the public contract leaves one outcome.
+pub mod Unique

@@ -85,7 +85,7 @@ module _ (faces : List OrientedBlockFace) (counts list : List ℕ) where
 -- ---- the three cases
 
 -- Equal outcomes have one answer and one output.
-parts : {r r′ : WriteAnswer} {last last′ : List ℕ} → outcome r last ≡ outcome r′ last′ → (r ≡ r′) × (last ≡ last′)
+pub parts : {r r′ : WriteAnswer} {last last′ : List ℕ} → outcome r last ≡ outcome r′ last′ → (r ≡ r′) × (last ≡ last′)
 parts e = (ap (λ (o : WriteOutcome). o .answer) e, ap (λ (o : WriteOutcome). o .out) e)
 
 -- Checks refuse, or they pass.
