@@ -35,7 +35,7 @@ enum-told : tie.Need-enum-told
 enum-told c = search needs
 
 returns : tie.Need-returns
-returns c = 
+returns c =
     let start = c .before .before .before .before .before .before .before .before in
     let is = corners-are (start .args .face) (start .args .quad) (start .pre) (c .before .before .before .before .before .before .before .quad-corners .ensures) (ap cornersMeaning (c .before .before .before .before .before .corners .given .1)) in
     rw (c .before .places .ensures .0, c .places2 .ensures .0) (ap (λ (m : QuadCorners). 20 + 2 * (pointPlaces (m .«minu_minv») + pointPlaces (m .«maxu_maxv»))) is ∙ sym (corners-long (start .args .face) (start .args .quad)))

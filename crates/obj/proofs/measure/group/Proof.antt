@@ -71,7 +71,7 @@ cast-quad : tie.Need-cast-quad Inv-loop μ-loop
 cast-quad c = record { fits = omega (arith, going-few (c .before .before .before .before .before .pre) (c .before .before .before .loop .inv .0) (c .before .before .loop-test .taken)) }
 
 quad-requires : tie.Need-quad-requires Inv-loop μ-loop
-quad-requires c κs = 
+quad-requires c κs =
     let turn = c .before .before in
     (going-drawable (turn .before .before .before .pre) (turn .before .loop .inv .0) (turn .loop-test .taken) (read c), going-few (turn .before .before .before .pre) (turn .before .loop .inv .0) (turn .loop-test .taken))
 
@@ -85,12 +85,12 @@ loop-less : tie.Need-loop-less Inv-loop μ-loop
 loop-less c = omega arith
 
 loop-again : tie.Need-loop-again Inv-loop μ-loop
-loop-again c = 
+loop-again c =
     let turn = c .before .before .before in
     (going-on (turn .before .before .before .pre) (turn .before .loop .inv .0) (turn .loop-test .taken), omega (arith, next c, turn .before .loop .inv .1))
 
 returns : tie.Need-returns Inv-loop μ-loop
-returns c = 
+returns c =
     let a = c .before .before .before .args in
     let l = c .before .loop in
     omega (arith, l .inv .1, ap length (left-done (a .quads .now) (a .face) (a .first) (a .count) (l .k) (l .from) (c .loop-test .left)))

@@ -28,7 +28,7 @@ next : (c : tie.After-group Inv-loop μ-loop)
 next c = from-measured (c .before .before .before .loop .inv .0) _ (c .before .before .loop-test .taken) (c .group .ensures)
 
 loop-holds : tie.Need-loop-holds Inv-loop μ-loop
-loop-holds c = 
+loop-holds c =
     let start = c .before in
     let six-faces = start .good .0 .1 .0 .1 in
     let six-counts = start .good .1 .0 .1 .0 .1 in
@@ -47,17 +47,17 @@ array-read-count : tie.Need-array-read-count Inv-loop μ-loop
 array-read-count c = search needs
 
 group-requires : tie.Need-group-requires Inv-loop μ-loop
-group-requires c κs = 
+group-requires c κs =
     let turn = c .before in
     meshing-ready (turn .before .before .before .pre) (turn .before .loop .inv .0) (turn .loop-test .taken) _
 
 add-length : tie.Need-add-length Inv-loop μ-loop
-add-length c = 
+add-length c =
     let l = c .before .before .before .loop in
     record { fits = omega (arith, next c, l .inv .1, l .inv .2, order-passed _ _ _ _ (c .before .before .before .before .before .pre) .few) }
 
 add-first : tie.Need-add-first Inv-loop μ-loop
-add-first c = 
+add-first c =
     let turn = c .before .before in
     record { fits = omega (arith, meshing-few (turn .before .before .before .pre) (turn .before .loop .inv .0) (turn .loop-test .taken)) }
 
@@ -68,7 +68,7 @@ loop-less : tie.Need-loop-less Inv-loop μ-loop
 loop-less c = omega arith
 
 loop-again : tie.Need-loop-again Inv-loop μ-loop
-loop-again c = 
+loop-again c =
     let turn = c .before .before in
     let l = turn .before .loop in
     (meshing-on (turn .before .before .before .pre) (l .inv .0) (turn .loop-test .taken), l .inv .1, omega (arith, next c, l .inv .2))

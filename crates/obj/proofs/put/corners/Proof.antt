@@ -28,20 +28,20 @@ corner-requires : tie.Need-corner-requires
 corner-requires c κs = room-first (fromSecond (c .before .before .corners .given .0 .0)) (room (c .before))
 
 corner-requires-2 : tie.Need-corner-requires-2
-corner-requires-2 c κs = 
+corner-requires-2 c κs =
     let told = c .before .before .before .before .before in
     let four = told .before .corners .given .0 .0 in
     room-first (fromThird four) (room-second (fromSecond four) (room told) (c .before .before .before .corner .ensures))
 
 corner-requires-3 : tie.Need-corner-requires-3
-corner-requires-3 c κs = 
+corner-requires-3 c κs =
     let one = c .before .before .before .before .before .before .before in
     let told = one .before .before in
     let four = told .before .corners .given .0 .0 in
     room-first (fourth four) (room-second (fromThird four) (room-second (fromSecond four) (room told) (one .corner .ensures)) (c .before .before .before .corner2 .ensures))
 
 corner-requires-4 : tie.Need-corner-requires-4
-corner-requires-4 c κs = 
+corner-requires-4 c κs =
     let two = c .before .before .before .before .before .before .before in
     let one = two .before .before .before .before in
     let told = one .before .before in
@@ -55,7 +55,7 @@ same-length : tie.Need-same-length
 same-length c = search needs
 
 returns : tie.Need-returns
-returns c = 
+returns c =
     let three = c .before .before .before .before .before .before in
     let two = three .before .before .before .before in
     let one = two .before .before .before .before in

@@ -70,7 +70,7 @@ cast-quad : tie.Need-cast-quad Inv-loop μ-loop
 cast-quad c = record { fits = omega (arith, going-few (c .before .before .before .before .before .before .pre .0) (c .before .before .before .loop .inv .0) (c .before .before .loop-test .taken)) }
 
 quad-requires : tie.Need-quad-requires Inv-loop μ-loop
-quad-requires c κs = 
+quad-requires c κs =
     let read-here = c .before in
     let turn = read-here .before .before in
     let start = turn .before .before .before .before in
@@ -87,7 +87,7 @@ loop-less : tie.Need-loop-less Inv-loop μ-loop
 loop-less c = omega arith
 
 loop-again : tie.Need-loop-again Inv-loop μ-loop
-loop-again c = 
+loop-again c =
     let read-here = c .before .before .before .before in
     let turn = read-here .before .before in
     let start = turn .before .before .before .before in

@@ -29,12 +29,12 @@ slice-aggregate-bytes : tie.Need-slice-aggregate-bytes Inv-loop μ-loop
 slice-aggregate-bytes c = search needs
 
 bytes-requires : tie.Need-bytes-requires Inv-loop μ-loop
-bytes-requires c κs = 
+bytes-requires c κs =
     let start = c .before .before .before .before in
     room-first (leftFrom (start .args .quads .now) (start .args .t1) (start .args .t2) 0 0) (room start)
 
 loop-holds : tie.Need-loop-holds Inv-loop μ-loop
-loop-holds c = 
+loop-holds c =
     let start = c .before .before .before .before .before .before .before in
     (meshing-start (start .pre .0) (start .good .0 .1 .0 .1) (start .good .1 .0 .1 .0 .1), leads-start refl)
 
@@ -51,7 +51,7 @@ array-read-count : tie.Need-array-read-count Inv-loop μ-loop
 array-read-count c = search needs
 
 group-requires : tie.Need-group-requires Inv-loop μ-loop
-group-requires c κs = 
+group-requires c κs =
     let turn = c .before .before in
     let wrote = turn .before .before .before .before in
     let start = wrote .before .before .before .before .before in
@@ -63,7 +63,7 @@ group-requires c κs =
     (ready, room-first rest (room-as (from-next (l .inv .0) _ (turn .loop-test .taken)) here))
 
 add-first : tie.Need-add-first Inv-loop μ-loop
-add-first c = 
+add-first c =
     let turn = c .before .before .before .before .before in
     record { fits = omega (arith, meshing-few (turn .before .before .before .before .before .before .before .before .before .pre .0) (turn .before .loop .inv .0) (turn .loop-test .taken)) }
 
@@ -74,7 +74,7 @@ loop-less : tie.Need-loop-less Inv-loop μ-loop
 loop-less c = omega arith
 
 loop-again : tie.Need-loop-again Inv-loop μ-loop
-loop-again c = 
+loop-again c =
     let turn = c .before .before .before .before .before in
     let l = turn .before .loop in
     (meshing-on (turn .before .before .before .before .before .before .before .before .before .pre .0) (l .inv .0) (turn .loop-test .taken), leads-on (l .inv .1) (from-next (l .inv .0) _ (turn .loop-test .taken)) (c .before .before .group .ensures))
@@ -83,7 +83,7 @@ same-length : tie.Need-same-length Inv-loop μ-loop
 same-length c = leads-length (c .before .loop .inv .1) ∙ wrote-length (c .before .before .before .before .bytes .ensures)
 
 returns : tie.Need-returns Inv-loop μ-loop
-returns c = 
+returns c =
     let start = c .before .before .before .before .before .before .before .before .before in
     let l = c .before .loop in
     let a = start .args in

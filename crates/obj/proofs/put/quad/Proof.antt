@@ -9,12 +9,12 @@ use Rattle.obj.proofs.put.quad.Statement.{statement}
 use Rattle.obj.proofs.put.quad.Tie as tie
 
 corners-requires : tie.Need-corners-requires
-corners-requires c κs = 
+corners-requires c κs =
     let start = c .before .before in
     (start .pre .0, room-first (bytesOf (triangleLines (start .args .k) (on (start .args .face) (start .args .quad)))) (room-as (quad-cut-in-two (start .args .k) (on (start .args .face) (start .args .quad))) (start .pre .1 .1)))
 
 triangles-requires : tie.Need-triangles-requires
-triangles-requires c κs = 
+triangles-requires c κs =
     let start = c .before .before .before .before .before .before in
     (start .pre .0, (start .pre .1 .0, room-second (bytesOf (triangleLines (start .args .k) (on (start .args .face) (start .args .quad)))) (room-as (quad-cut-in-two (start .args .k) (on (start .args .face) (start .args .quad))) (start .pre .1 .1)) (c .before .before .before .corners .ensures)))
 

@@ -30,13 +30,13 @@ enum-known-i : tie.Need-enum-known-i
 enum-known-i c = search needs
 
 triangle-requires : tie.Need-triangle-requires
-triangle-requires c κs = 
+triangle-requires c κs =
     let told = c .before in
     let start = told .before .before .before .before .before in
     (small-indices (start .args .k) (start .args .face) (start .args .quad) (start .pre .1 .0) (is told) .0, room-first (bytes (triangleLine (secondTriangle (told .before .i .given .0 .0)))) (room told))
 
 triangle-requires-2 : tie.Need-triangle-requires-2
-triangle-requires-2 c κs = 
+triangle-requires-2 c κs =
     let told = c .before .before .before .before .before in
     let start = told .before .before .before .before .before in
     (small-indices (start .args .k) (start .args .face) (start .args .quad) (start .pre .1 .0) (is told) .1, room-second (bytes (triangleLine (secondTriangle (told .before .i .given .0 .0)))) (room told) (c .before .before .before .triangle .ensures))
@@ -48,13 +48,13 @@ same-length : tie.Need-same-length
 same-length c = search needs
 
 returns : tie.Need-returns
-returns c = 
+returns c =
     let one = c .before .before .before .before .before .before in
     let a = one .before .before .before .before .before .before .before .args in
     wrote-as (sym (triangles-lines (a .k) (a .face) (a .quad) (is (one .before .before)))) (wrote-both (one .triangle .ensures) (c .before .before .triangle2 .ensures))
 
 returns-2 : tie.Need-returns-2
-returns-2 c = 
+returns-2 c =
     let start = c .before .before .before .before in
     absurd (indices-given _ (start .args .quad) (start .pre .0) _ (start .pre .1 .0) (c .before .before .quad-mesh-indices .ensures) (ap indicesMeaning (c .enum-told .given .1)))
 
