@@ -14,7 +14,6 @@ use Rattle.geometry.specs.Refusal.{accepted, checked}
 use Rattle.geometry.specs.Checks.{properSign}
 use Rattle.geometry.specs.Lists.{Each}
 use Rattle.geometry.proofs.Lists.{each-left, each-right}
-use Rattle.listing.specs.Listing.{capacity}
 use Rattle.greedy.specs.Greedy.{quadNumbers}
 use Rattle.greedy.specs.Call.{quadFrom}
 use Rattle.writing.specs.Handed.{mostQuads, listedChecks}

@@ -1,7 +1,7 @@
 -- The lines of a quad as they are written: one after another, from what geometry gives for it.
-use mathlib.Core.List.{List, [], _∷_, _++_, append-nil}
-use mathlib.Core.Path.{_≡_, refl, sym, _∙_, ap}
-use Prim.Native.Nat.{ℕ, _+_, _*_, _≤_, _<_}
+use mathlib.Core.List.{List, _++_, append-nil}
+use mathlib.Core.Path.{_≡_}
+use Prim.Native.Nat.{ℕ, _<_}
 use native.Mathlib.Omega.{arith}
 use Rattle.geometry.specs.declared.quad.UnorientedQuad.{UnorientedQuad}
 use Rattle.geometry.specs.declared.face.OrientedBlockFace.{OrientedBlockFace}

@@ -1,6 +1,6 @@
 -- `corners` meets its contract: the first and the last corner tell how long all four lines are.
 use borrow.Author.Needs.{needs}
-use mathlib.Core.Path.{_≡_, sym, _∙_, ap}
+use mathlib.Core.Path.{sym, _∙_, ap}
 use Prim.Native.Nat.{_+_, _*_}
 use Rattle.geometry.specs.declared.face.QuadCorners.{QuadCorners}
 use Rattle.geometry.specs.Answers.{cornersMeaning}

@@ -1,7 +1,6 @@
 -- `group` meets its contract: what is measured, and what is left, are all of it.
 use borrow.Author.Needs.{needs}
-use mathlib.Core.List.{_++_}
-use mathlib.Core.Path.{_≡_, sym, _∙_, ap}
+use mathlib.Core.Path.{_≡_, _∙_, ap}
 use Prim.Native.Nat.{_+_, _-_, _*_, _≤_}
 use native.Mathlib.Omega.{arith}
 use lib.ListN.{length, length-append}

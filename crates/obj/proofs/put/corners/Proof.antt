@@ -1,6 +1,6 @@
 -- `corners` meets its contract: four lines, one after another.
 use borrow.Author.Needs.{needs}
-use mathlib.Core.Path.{_≡_, sym, _∙_, ap}
+use mathlib.Core.Path.{_≡_, sym, ap}
 use Rattle.geometry.specs.Answers.{cornersMeaning}
 use Rattle.geometry.specs.Corners.{corners}
 use Rattle.obj.specs.Page.{Room}

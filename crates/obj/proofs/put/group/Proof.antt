@@ -1,14 +1,14 @@
 -- `group` meets its contract: what is left, written after what is written, is all of it.
 use borrow.Author.Needs.{needs}
 use mathlib.Core.List.{_++_}
-use mathlib.Core.Path.{_≡_, sym, _∙_, ap}
+use mathlib.Core.Path.{_≡_, _∙_}
 use Prim.Native.Nat.{_+_, _-_, _*_, _≤_}
 use native.Mathlib.Omega.{arith}
-use lib.ListN.{length, length-append}
+use lib.ListN.{length}
 use Rattle.greedy.specs.Greedy.{quadNumbers}
 use Rattle.obj.specs.Text.{quadText}
 use Rattle.obj.specs.Page.{on, groupText}
-use Rattle.obj.proofs.Going.{Going, quadAt, left, group-at-most, going-start, going-drawable, going-few, going-held, going-on, left-start, left-next, left-done, quad-read}
+use Rattle.obj.proofs.Going.{Going, quadAt, left, going-start, going-drawable, going-few, going-held, going-on, left-start, left-next, left-done, quad-read}
 use Rattle.obj.proofs.Page.{Leads, leads-start, leads-on, leads-done, leads-length, leads-room, room-first, room-as}
 use Rattle.obj.proofs.put.group.Statement.{statement}
 use Rattle.obj.proofs.put.group.Tie as tie

@@ -1,13 +1,12 @@
 -- `number` meets its contract: its digits are spelled where there is room for them, and the byte stands after them.
 use borrow.Author.Needs.{needs}
 use mathlib.Core.List.{[], _∷_}
-use mathlib.Core.Path.{_≡_, refl, sym, _∙_, ap}
-use Prim.Native.Nat.{ℕ, _+_, _-_, _≤_, _<_}
+use mathlib.Core.Path.{_≡_}
+use Prim.Native.Nat.{_+_, _≤_}
 use native.Mathlib.Omega.{arith}
-use lib.ListN.{length, length-append, set}
+use lib.ListN.{length, length-append}
 use Rattle.digits.specs.Decimal.{digits}
 use Rattle.digits.proofs.Written.{spelled-many, spelled-from}
-use Rattle.listing.specs.Pushed.{setAll}
 use Rattle.listing.proofs.Pushed.{set-all-length}
 use Rattle.obj.proofs.Page.{byte-after}
 use Rattle.obj.proofs.put.number.Statement.{statement}

@@ -1,6 +1,6 @@
 -- `triangles` meets its contract: two lines, one after the other.
 use borrow.Author.Needs.{needs}
-use mathlib.Core.Path.{_≡_, sym, _∙_, ap}
+use mathlib.Core.Path.{_≡_, sym, ap}
 use Rattle.geometry.specs.Answers.{indicesMeaning}
 use Rattle.obj.specs.Text.{bytes, triangleLine, secondTriangle, indicesAt}
 use Rattle.obj.specs.Page.{Room, on}
