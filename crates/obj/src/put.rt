@@ -90,7 +90,13 @@ fn corners(face: OrientedBlockFace, quad: UnorientedQuad, out: &mut [u8], at: us
 }
 
 // The lines of its triangles, where it is the quad of this number.
-fn triangles(face: OrientedBlockFace, quad: UnorientedQuad, k: u32, out: &mut [u8], at: usize) -> usize
+fn triangles(
+    face: OrientedBlockFace,
+    quad: UnorientedQuad,
+    k: u32,
+    out: &mut [u8],
+    at: usize,
+) -> usize
     requires { ⌜ Drawable face quad ⌝ }
     requires { ⌜ k < mostQuads ⌝ }
     requires { ⌜ Room (bytesOf (triangleLines k (on face quad))) (now out) at ⌝ }
@@ -135,7 +141,13 @@ fn group(
     while k < count {
         let end = from + QUAD_NUMBERS;
         let number = first + k;
-        next = quad(face, handed::quad_from(&quads[from..end]), number as u32, out, next);
+        next = quad(
+            face,
+            handed::quad_from(&quads[from..end]),
+            number as u32,
+            out,
+            next,
+        );
         from = end;
         k += 1;
     }

@@ -72,14 +72,14 @@ refused-requires-2 : tie.Need-refused-requires-2
 refused-requires-2 c κs = search needs
 
 returns : tie.Need-returns
-returns c = 
+returns c =
     let asked = c .before .before in
     let a = asked .before .before .before .before .before .before .before .args in
     ap (λ r. outcome r (a .out .now)) (c .refused2 .ensures)
     ∙ sym (short (a .faces) (a .counts) (a .quads .now) (a .out .now) (passed (asked .before)) (leb-false _ _ (fit asked (not-true _ (c .before .if1 .taken)))))
 
 mesh-requires : tie.Need-mesh-requires
-mesh-requires c κs = 
+mesh-requires c κs =
     let asked = c .before .before in
     (passed (asked .before), leb-true _ _ (fit asked (not-false _ (c .before .if1 .left))))
 
@@ -87,7 +87,7 @@ accepted-requires : tie.Need-accepted-requires
 accepted-requires c κs = search needs
 
 returns-2 : tie.Need-returns-2
-returns-2 c = 
+returns-2 c =
     let a = c .before .before .before .before .before .before .before .args in
     ap (λ r. outcome r (a .out .now)) (c .refused .ensures)
     ∙ sym (refuses (a .faces) (a .counts) (a .quads .now) (a .out .now) (answer-refused (listedChecks (a .faces) (a .counts) (a .quads .now)) (total (a .counts)) (sym (c .before .before .before .before .check-listed .ensures) ∙ ap quadsMeaning (c .before .before .number .given .1))))
@@ -96,7 +96,7 @@ same-length : tie.Need-same-length
 same-length c = search needs
 
 returns-3 : tie.Need-returns-3
-returns-3 c = 
+returns-3 c =
     let wrote = c .before .before .before in
     let asked = wrote .before .before .before in
     let a = asked .before .before .before .before .before .before .before .args in

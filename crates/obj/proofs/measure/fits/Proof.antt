@@ -28,7 +28,7 @@ add-most : tie.Need-add-most
 add-most c = record { fits = omega (arith, few (c .before)) }
 
 returns : tie.Need-returns
-returns c = 
+returns c =
     let start = c .before .before in
     sym (le-leb (length (objText (start .args .faces) (start .args .counts) (start .args .quads .now))) (start .args .room) (omega (arith, bound start, c .if1 .taken)))
 

@@ -34,7 +34,7 @@ write-requires-2 : tie.Need-write-requires-2
 write-requires-2 c κs = search needs
 
 returns : tie.Need-returns
-returns c = 
+returns c =
     let told = c .before .before .before in
     obj-refused _ _ _ _ (told .before .before .before .check-faces .ensures) (ap checkMeaning (told .before .number .given .1)) (c .before .refused .ensures) (c .write .ensures)
 
@@ -42,7 +42,7 @@ same-length : tie.Need-same-length
 same-length c = search needs
 
 returns-2 : tie.Need-returns-2
-returns-2 c = 
+returns-2 c =
     let wrote = c .before .before .before .before in
     let read = wrote .before .before in
     let passed = read .before .before in
