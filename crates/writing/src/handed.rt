@@ -20,8 +20,8 @@ use voxels::bounds;
 // Refusal 24: the counts sum to more quads than the list holds.
 pub const COUNTS: u32 = 24;
 
-// Refusal 13: more quads than `MOST_QUADS`.
-pub const MANY_QUADS: u32 = 13;
+// Refusal 13: more quads than `MOST_QUADS`, whose vertices would have numbers past 32 bits.
+pub const MANY_VERTICES: u32 = 13;
 
 // The most quads whose vertices, counted from 1, have numbers below 2 to the 32nd.
 pub const MOST_QUADS: u64 = 1073741823;
@@ -158,7 +158,7 @@ fn check(
                 CheckAnswer::Refused(number, place) => QuadsAnswer::Refused(number, place),
                 CheckAnswer::Passed => {
                     if MOST_QUADS < all {
-                        return QuadsAnswer::Refused(MANY_QUADS, 0);
+                        return QuadsAnswer::Refused(MANY_VERTICES, 0);
                     }
                     QuadsAnswer::Quads(all)
                 }
