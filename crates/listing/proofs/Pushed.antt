@@ -54,6 +54,14 @@ set-next (x ∷ xs) out at (suc k) h =
     let next : at + suc k ≡ at + 1 + k = omega arith in
     rw (suc-add k 1, next) (set-next xs (set out at x) (at + 1) k (omega arith))
 
+-- Numbers set in two lots.
+pub set-all-append : (out : List ℕ) (at : ℕ) (a b : List ℕ) → setAll (setAll out at a) (at + length a) b ≡ setAll out at (a ++ b)
+unfolding setAll
+set-all-append out at [] b = rw add-zero
+set-all-append out at (x ∷ a) b =
+    let next : at + length (x ∷ a) ≡ at + 1 + length a = omega arith in
+    rw next (set-all-append (set out at x) (at + 1) a b)
+
 -- Setting numbers keeps how many there are.
 pub set-all-length : (xs out : List ℕ) (at : ℕ) → length (setAll out at xs) ≡ length out
 unfolding setAll

@@ -8,16 +8,8 @@ use lib.ListN.{length, length-append, take, getD, set}
 use lib.Seq.{take-all}
 use Rattle.listing.specs.Listing.{overwritten}
 use Rattle.listing.specs.Pushed.{setAll}
-use Rattle.listing.proofs.Pushed.{set-all-after, set-all-length, set-next}
+use Rattle.listing.proofs.Pushed.{set-all-after, set-all-append, set-all-length, set-next}
 use Rattle.obj.specs.Page.{Page, page, put, Wrote, Room}
-
--- Numbers set in two lots.
-set-all-append : (out : List ℕ) (at : ℕ) (a b : List ℕ) → setAll (setAll out at a) (at + length a) b ≡ setAll out at (a ++ b)
-unfolding setAll
-set-all-append out at [] b = rw add-zero
-set-all-append out at (x ∷ a) b =
-    let next : at + length (x ∷ a) ≡ at + 1 + length a = omega arith in
-    rw next (set-all-append (set out at x) (at + 1) a b)
 
 -- Bytes put in two lots.
 put-put : (p : Page) (a b : List ℕ) → put (put p a) b ≡ put p (a ++ b)
