@@ -3,6 +3,8 @@
 pub mod Digits
 -- Of digits written into a scratch.
 pub mod Written
+-- Of digits in lots.
+pub mod Lots
 -- The worked examples.
 pub mod Examples
 -- That each public contract leaves one outcome.

@@ -5,3 +5,5 @@ pub mod Decimal
 pub mod Statements
 -- Numbers and scratches, with what is left of them.
 pub mod Examples
+-- Digits in lots, for private contracts.
+pub mod Lots

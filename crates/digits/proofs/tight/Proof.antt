@@ -1,4 +1,4 @@
--- `spell` meets its contract. Its loop writes the digits from the last to the first: those to come, before those written, are the number's.
+-- `tight` meets its contract. Its loop writes the digits from the last to the first: those to come, before those written, are the number's.
 use borrow.Author.Needs.{needs}
 use mathlib.Core.List.{_++_}
 use mathlib.Core.Path.{_≡_, refl, _∙_}
@@ -7,8 +7,8 @@ use native.Mathlib.Omega.{arith}
 use lib.ListN.{length, drop, length-set}
 use Rattle.digits.specs.Decimal.{digits}
 use Rattle.digits.proofs.Written.{lastDigits, writing-starts, writing-on, writing-done, spelled-short, spelled-fits}
-use Rattle.digits.proofs.spell.Statement.{statement}
-use Rattle.digits.proofs.spell.Tie as tie
+use Rattle.digits.proofs.tight.Statement.{statement}
+use Rattle.digits.proofs.tight.Tie as tie
 
 abbrev Inv-loop : tie.InvT-loop
 Inv-loop n scratch₀ count at₀ rest₀ scratch at rest = (at ≤ count) × (length scratch ≡ length scratch₀) × (lastDigits at rest ++ drop at scratch ≡ digits n ++ drop count scratch₀)
@@ -51,8 +51,8 @@ same-length c = c .before .loop .inv .1
 returns-2 : tie.Need-returns-2 Inv-loop μ-loop
 returns-2 c = spelled-fits _ _ _ (c .before .before .before .places .ensures) (omega arith) (writing-done _ _ _ _ (omega arith) (c .before .loop .inv .2))
 
-pub spell-spec : {M : Type 1} → statement M
-spell-spec =
+pub tight-spec : {M : Type 1} → statement M
+tight-spec =
     tie.close
     (tie.spec
     Inv-loop
