@@ -2,8 +2,8 @@
  *
  * Link with libspunmarrow.a, which `rt staticlib spunmarrow` writes to target/staticlib/, on x86-64 Linux:
  *     cc -Iinclude FILE.c target/staticlib/libspunmarrow.a
- * Plain C99; C++17 takes it as well. host/mesh_file.c is a program to copy. The archive needs memset of the C library
- * and nothing else, and any x86-64 processor will do: it has no instruction past SSE2.
+ * Plain C99; C++17 takes it as well. host/mesh_file.c, with host/block.c, is a program to copy. The archive needs
+ * memset of the C library and nothing else, and any x86-64 processor will do: it has no instruction past SSE2.
  *
  * WHAT THE CALLER GUARANTEES. What each function answers and leaves in each buffer is proved, for every value of every
  * number that it is handed. A proof can't see through a pointer, so this is left to the caller:
