@@ -7,4 +7,4 @@ use Rattle.digits.specs.Examples.{Spells, spellings}
 
 pub spellings-hold : Each Spells spellings
 unfolding spellings Each part overwritten digits digitsWithin
-spellings-hold = (refl, (refl, (refl, (refl, (refl, (refl, (refl, (refl, tt))))))))
+spellings-hold = (refl, (refl, (refl, (refl, (refl, (refl, (refl, (refl, (refl, (refl, (refl, (refl, (refl, (refl, (refl, tt)))))))))))))))

@@ -4,7 +4,7 @@ pub mod Digits
 -- Of digits written into a scratch.
 pub mod Written
 -- Of digits in lots.
-pub mod Lots
+pub mod InLots
 -- The worked examples.
 pub mod Examples
 -- That each public contract leaves one outcome.

@@ -11,10 +11,10 @@ use Rattle.digits.proofs.tight.Statement.{statement}
 use Rattle.digits.proofs.tight.Tie as tie
 
 abbrev Inv-loop : tie.InvT-loop
-Inv-loop n scratch₀ count at₀ rest₀ scratch at rest = (at ≤ count) × (length scratch ≡ length scratch₀) × (lastDigits at rest ++ drop at scratch ≡ digits n ++ drop count scratch₀)
+Inv-loop n out₀ count at₀ rest₀ out at rest = (at ≤ count) × (length out ≡ length out₀) × (lastDigits at rest ++ drop at out ≡ digits n ++ drop count out₀)
 
 abbrev μ-loop : tie.MeasureT-loop
-μ-loop n scratch₀ count at₀ rest₀ scratch at rest = at
+μ-loop n out₀ count at₀ rest₀ out at rest = at
 
 places-requires : tie.Need-places-requires Inv-loop μ-loop
 places-requires c κs = search needs
@@ -28,14 +28,14 @@ loop-holds c = (omega arith, refl, writing-starts _ _ _ (c .before .places .ensu
 sub-at : tie.Need-sub-at Inv-loop μ-loop
 sub-at c = search needs
 
-cast-scratch : tie.Need-cast-scratch Inv-loop μ-loop
-cast-scratch c = search needs
+cast-out : tie.Need-cast-out Inv-loop μ-loop
+cast-out c = search needs
 
-add-scratch : tie.Need-add-scratch Inv-loop μ-loop
-add-scratch c = search needs
+add-out : tie.Need-add-out Inv-loop μ-loop
+add-out c = search needs
 
-slice-write-scratch : tie.Need-slice-write-scratch Inv-loop μ-loop
-slice-write-scratch c = omega arith
+slice-write-out : tie.Need-slice-write-out Inv-loop μ-loop
+slice-write-out c = omega arith
 
 loop-less : tie.Need-loop-less Inv-loop μ-loop
 loop-less c = search needs
@@ -43,7 +43,7 @@ loop-less c = search needs
 loop-again : tie.Need-loop-again Inv-loop μ-loop
 loop-again c =
     let l = c .before .loop in
-    (omega arith, simp length-set (l .inv .1), writing-on (l .at) (l .rest) (l .scratch) (c .loop-test .taken) (omega arith) ∙ l .inv .2)
+    (omega arith, simp length-set (l .inv .1), writing-on (l .at) (l .rest) (l .out) (c .loop-test .taken) (omega arith) ∙ l .inv .2)
 
 same-length : tie.Need-same-length Inv-loop μ-loop
 same-length c = c .before .loop .inv .1
@@ -61,9 +61,9 @@ tight-spec =
     returns
     loop-holds
     sub-at
-    cast-scratch
-    add-scratch
-    slice-write-scratch
+    cast-out
+    add-out
+    slice-write-out
     loop-less
     loop-again
     same-length

@@ -5,9 +5,9 @@ use mathlib.Core.List.{List}
 use Prim.Native.Nat.{ℕ, _+_, _%_}
 use Rattle.listing.specs.Pushed.{setAll}
 use Rattle.digits.specs.Lots.{twoDigits}
-use Rattle.digits.proofs.Lots.{set-four}
-use Rattle.digits.proofs.four.Statement.{statement}
-use Rattle.digits.proofs.four.Tie as tie
+use Rattle.digits.proofs.InLots.{set-four}
+use Rattle.digits.proofs.lots.four.Statement.{statement}
+use Rattle.digits.proofs.lots.four.Tie as tie
 
 two-requires : tie.Need-two-requires
 two-requires c κs = search needs

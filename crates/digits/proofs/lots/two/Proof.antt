@@ -4,8 +4,8 @@ use mathlib.Core.Path.{refl}
 use native.Mathlib.Omega.{arith}
 use lib.ListN.{length-set}
 use Rattle.listing.specs.Pushed.{setAll}
-use Rattle.digits.proofs.two.Statement.{statement}
-use Rattle.digits.proofs.two.Tie as tie
+use Rattle.digits.proofs.lots.two.Statement.{statement}
+use Rattle.digits.proofs.lots.two.Tie as tie
 
 cast-out : tie.Need-cast-out
 cast-out c = search needs

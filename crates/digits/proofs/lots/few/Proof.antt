@@ -5,9 +5,9 @@ use native.Mathlib.Omega.{arith}
 use lib.ListN.{length}
 use Rattle.listing.specs.Pushed.{setAll}
 use Rattle.digits.proofs.Digits.{digits-one}
-use Rattle.digits.proofs.Lots.{digits-two}
-use Rattle.digits.proofs.few.Statement.{statement}
-use Rattle.digits.proofs.few.Tie as tie
+use Rattle.digits.proofs.InLots.{digits-two}
+use Rattle.digits.proofs.lots.few.Statement.{statement}
+use Rattle.digits.proofs.lots.few.Tie as tie
 
 cast-out : tie.Need-cast-out
 cast-out c = search needs

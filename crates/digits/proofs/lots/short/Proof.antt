@@ -8,9 +8,9 @@ use Rattle.listing.specs.Pushed.{setAll}
 use Rattle.listing.proofs.Pushed.{set-all-length}
 use Rattle.digits.specs.Decimal.{glyph}
 use Rattle.digits.specs.Lots.{twoDigits}
-use Rattle.digits.proofs.Lots.{digits-three, digits-four}
-use Rattle.digits.proofs.short.Statement.{statement}
-use Rattle.digits.proofs.short.Tie as tie
+use Rattle.digits.proofs.InLots.{digits-three, digits-four}
+use Rattle.digits.proofs.lots.short.Statement.{statement}
+use Rattle.digits.proofs.lots.short.Tie as tie
 
 few-requires : tie.Need-few-requires
 few-requires c κs = search needs
