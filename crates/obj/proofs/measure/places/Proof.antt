@@ -1,24 +1,19 @@
 -- `places` meets its contract: a 32-bit number has at most ten digits.
 use borrow.Author.Needs.{needs}
-use Prim.Native.Nat.{ℕ, _≤_, _<_}
+use Prim.Native.Nat.{_≤_}
 use native.Mathlib.Omega.{arith}
-use lib.ListN.{length}
-use Rattle.digits.specs.Decimal.{digits}
-use Rattle.digits.proofs.Digits.{digits-at-most}
+use Rattle.digits.proofs.Digits.{decimal-holds}
 use Rattle.obj.proofs.measure.places.Statement.{statement}
 use Rattle.obj.proofs.measure.places.Tie as tie
 
-few : (n : ℕ) → n < 4_294_967_296 → length (digits n) ≤ 10
-few n h = digits-at-most 9 n (omega arith)
-
 x-few : (c : tie.After-places) → c .places .result ≤ 10
-x-few c = rw (c .places .ensures) (few _ (omega (arith, c .before .fits .x)))
+x-few c = rw (c .places .ensures) (decimal-holds _ .few (omega (arith, c .before .fits .x)))
 
 y-few : (c : tie.After-places2) → c .places2 .result ≤ 10
-y-few c = rw (c .places2 .ensures) (few _ (omega (arith, c .before .before .fits .y)))
+y-few c = rw (c .places2 .ensures) (decimal-holds _ .few (omega (arith, c .before .before .fits .y)))
 
 z-few : (c : tie.After-places3) → c .places3 .result ≤ 10
-z-few c = rw (c .places3 .ensures) (few _ (omega (arith, c .before .before .before .fits .z)))
+z-few c = rw (c .places3 .ensures) (decimal-holds _ .few (omega (arith, c .before .before .before .fits .z)))
 
 places-requires : tie.Need-places-requires
 places-requires c κs = search needs

@@ -1,24 +1,19 @@
 -- `triangles` meets its contract: a vertex number has at most ten digits.
 use borrow.Author.Needs.{needs}
-use Prim.Native.Nat.{ℕ, _≤_, _<_}
+use Prim.Native.Nat.{_≤_}
 use native.Mathlib.Omega.{arith}
-use lib.ListN.{length}
-use Rattle.digits.specs.Decimal.{digits}
-use Rattle.digits.proofs.Digits.{digits-at-most}
+use Rattle.digits.proofs.Digits.{decimal-holds}
 use Rattle.obj.proofs.measure.triangles.Statement.{statement}
 use Rattle.obj.proofs.measure.triangles.Tie as tie
-
-few : (n : ℕ) → n < 4_294_967_296 → length (digits n) ≤ 10
-few n h = digits-at-most 9 n (omega arith)
 
 -- None of the four counts is more.
 small : (c : tie.After-places4) → (c .before .before .before .places .result ≤ 10) × (c .before .before .places2 .result ≤ 10) × (c .before .places3 .result ≤ 10) × (c .places4 .result ≤ 10)
 small c =
     let start = c .before .before .before .before in (
-      rw (c .before .before .before .places .ensures) (few _ (omega (arith, start .pre))),
-      rw (c .before .before .places2 .ensures) (few _ (omega (arith, start .pre))),
-      rw (c .before .places3 .ensures) (few _ (omega (arith, start .pre))),
-      rw (c .places4 .ensures) (few _ (omega (arith, start .pre))),
+      rw (c .before .before .before .places .ensures) (decimal-holds _ .few (omega (arith, start .pre))),
+      rw (c .before .before .places2 .ensures) (decimal-holds _ .few (omega (arith, start .pre))),
+      rw (c .before .places3 .ensures) (decimal-holds _ .few (omega (arith, start .pre))),
+      rw (c .places4 .ensures) (decimal-holds _ .few (omega (arith, start .pre))),
     )
 
 mul-start : tie.Need-mul-start
