@@ -1,6 +1,6 @@
 -- `write_obj` meets its contract: it checks the mesh, looks whether its text fits, and writes it where it does.
 use borrow.Author.Needs.{needs}
-use mathlib.Core.Bool.{Bool, true, false}
+use mathlib.Core.Bool.{Bool}
 use mathlib.Core.List.{List}
 use mathlib.Core.Path.{_≡_, sym, _∙_, ap}
 use Prim.Native.Nat.{ℕ, _≤_, _<_}
@@ -11,6 +11,7 @@ use Rattle.geometry.specs.declared.face.OrientedBlockFace.{OrientedBlockFace}
 use Rattle.geometry.specs.Refusal.{accepted, refused, checked}
 use Rattle.geometry.proofs.Refusals.{accepts-checked, accepts-value, answer-refused}
 use Rattle.listing.specs.Listing.{overwritten}
+use Rattle.writing.specs.declared.written.WriteAnswer.{WriteAnswer}
 use Rattle.writing.specs.Handed.{total, listedChecks, quadsMeaning}
 use Rattle.writing.specs.Written.{outcome, refusedAnswer, acceptedAnswer}
 use Rattle.writing.proofs.Outcome.{checks-refuse, short-refused, enough-written}
@@ -22,18 +23,21 @@ use Rattle.obj.proofs.write_obj.Tie as tie
 -- ---- the three outcomes
 
 module _ (faces : List OrientedBlockFace) (counts list out : List ℕ) where
-  refuses : {n p : ℕ} → checked (listedChecks faces counts list) ≡ refused n p → writeObj faces counts list out ≡ outcome (refusedAnswer n p) out
+  -- A refusal by one of the checks is handed on,
+  refuses : {r : WriteAnswer} {n p : ℕ} → r ≡ refusedAnswer n p → checked (listedChecks faces counts list) ≡ refused n p → outcome r out ≡ writeObj faces counts list out
   unfolding writeObj
-  refuses e = checks-refuse (listedChecks faces counts list) (objText faces counts list) out e
+  refuses is e = ap (λ (r : WriteAnswer). outcome r out) is ∙ sym (checks-refuse (listedChecks faces counts list) (objText faces counts list) out e)
 
-  short : checked (listedChecks faces counts list) ≡ accepted tt → length out < length (objText faces counts list) → writeObj faces counts list out ≡ outcome (refusedAnswer 15 0) out
+  -- a text that is longer than the output is refused by 15,
+  short : {r : WriteAnswer} → r ≡ refusedAnswer 15 0 → checked (listedChecks faces counts list) ≡ accepted tt → length out < length (objText faces counts list) → outcome r out ≡ writeObj faces counts list out
   unfolding writeObj
-  short e h = short-refused (listedChecks faces counts list) (objText faces counts list) out e h
+  short is e h = ap (λ (r : WriteAnswer). outcome r out) is ∙ sym (short-refused (listedChecks faces counts list) (objText faces counts list) out e h)
 
-  writes : checked (listedChecks faces counts list) ≡ accepted tt → length (objText faces counts list) ≤ length out
-      → writeObj faces counts list out ≡ outcome (acceptedAnswer (length (objText faces counts list))) (overwritten (objText faces counts list) out)
+  -- and any other is written, and its length answered.
+  writes : {r : WriteAnswer} {n : ℕ} {last : List ℕ} → r ≡ acceptedAnswer n → n ≡ length (objText faces counts list) → last ≡ overwritten (objText faces counts list) out
+      → checked (listedChecks faces counts list) ≡ accepted tt → length (objText faces counts list) ≤ length out → outcome r last ≡ writeObj faces counts list out
   unfolding writeObj
-  writes e h = enough-written (listedChecks faces counts list) (objText faces counts list) out e h
+  writes is long left e h = rw (is, long, left) (sym (enough-written (listedChecks faces counts list) (objText faces counts list) out e h))
 
 -- Where the mesh has quads its checks have passed,
 passed : (c : tie.After-known-told2) → let a = c .before .before .before .before .before .before .args in checked (listedChecks (a .faces) (a .counts) (a .quads .now)) ≡ accepted tt
@@ -74,9 +78,7 @@ refused-requires-2 c κs = search needs
 returns : tie.Need-returns
 returns c =
     let asked = c .before .before in
-    let a = asked .before .before .before .before .before .before .before .args in
-    ap (λ r. outcome r (a .out .now)) (c .refused2 .ensures)
-    ∙ sym (short (a .faces) (a .counts) (a .quads .now) (a .out .now) (passed (asked .before)) (leb-false _ _ (fit asked (not-true _ (c .before .if1 .taken)))))
+    short _ _ _ _ (c .refused2 .ensures) (passed (asked .before)) (leb-false _ _ (fit asked (not-true _ (c .before .if1 .taken))))
 
 mesh-requires : tie.Need-mesh-requires
 mesh-requires c κs =
@@ -89,8 +91,8 @@ accepted-requires c κs = search needs
 returns-2 : tie.Need-returns-2
 returns-2 c =
     let a = c .before .before .before .before .before .before .before .args in
-    ap (λ r. outcome r (a .out .now)) (c .refused .ensures)
-    ∙ sym (refuses (a .faces) (a .counts) (a .quads .now) (a .out .now) (answer-refused (listedChecks (a .faces) (a .counts) (a .quads .now)) (total (a .counts)) (sym (c .before .before .before .before .check-listed .ensures) ∙ ap quadsMeaning (c .before .before .number .given .1))))
+    refuses _ _ _ _ (c .refused .ensures)
+    (answer-refused (listedChecks (a .faces) (a .counts) (a .quads .now)) (total (a .counts)) (sym (c .before .before .before .before .check-listed .ensures) ∙ ap quadsMeaning (c .before .before .number .given .1)))
 
 same-length : tie.Need-same-length
 same-length c = search needs
@@ -99,10 +101,8 @@ returns-3 : tie.Need-returns-3
 returns-3 c =
     let wrote = c .before .before .before in
     let asked = wrote .before .before .before in
-    let a = asked .before .before .before .before .before .before .before .args in
     let enough = leb-true _ _ (fit asked (not-false _ (wrote .before .before .if1 .left))) in
-    ap (λ r. outcome r (wrote .mesh .last .1 .1 .1 .0)) (c .accepted .ensures)
-    ∙ rw (wrote-end (wrote .mesh .ensures), wrote-whole enough (wrote .mesh .ensures)) (sym (writes (a .faces) (a .counts) (a .quads .now) (a .out .now) (passed (asked .before)) enough))
+    writes _ _ _ _ (c .accepted .ensures) (wrote-end (wrote .mesh .ensures)) (wrote-whole enough (wrote .mesh .ensures)) (passed (asked .before)) enough
 
 pub write-obj-spec : {M : Type 1} → statement M
 write-obj-spec =

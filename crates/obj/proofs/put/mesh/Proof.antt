@@ -1,13 +1,12 @@
 -- `mesh` meets its contract: what is left, written after what is written, is all of the text.
 use borrow.Author.Needs.{needs}
 use mathlib.Core.List.{_++_}
-use mathlib.Core.Path.{_≡_, refl, sym, _∙_, ap}
-use Prim.Native.Nat.{_+_, _-_, _*_, _≤_}
+use mathlib.Core.Path.{refl, sym, _∙_}
+use Prim.Native.Nat.{_+_, _-_, _*_}
 use native.Mathlib.Omega.{arith}
-use lib.ListN.{length, getD}
+use lib.ListN.{getD}
 use Rattle.greedy.specs.Greedy.{quadNumbers}
-use Rattle.obj.specs.Text.{quadText, firstLine}
-use Rattle.obj.specs.Obj.{objText}
+use Rattle.obj.specs.Text.{firstLine}
 use Rattle.obj.specs.Page.{groupText, Room}
 use Rattle.obj.proofs.Page.{Leads, leads-start, leads-on, leads-done, leads-length, leads-room, room-first, room-second, room-as, wrote-both, wrote-as, wrote-length}
 use Rattle.obj.proofs.Going.{Meshing, leftFrom, meshing-start, meshing-ready, meshing-on, meshing-few, text-start, from-next, from-done}
@@ -76,8 +75,11 @@ loop-less c = omega arith
 loop-again : tie.Need-loop-again Inv-loop μ-loop
 loop-again c =
     let turn = c .before .before .before .before .before in
+    let start = turn .before .before .before .before .before .before .before .before .before in
     let l = turn .before .loop in
-    (meshing-on (turn .before .before .before .before .before .before .before .before .before .pre .0) (l .inv .0) (turn .loop-test .taken), leads-on (l .inv .1) (from-next (l .inv .0) _ (turn .loop-test .taken)) (c .before .before .group .ensures))
+    let a = start .args in
+    let here = groupText (a .quads .now) (getD (a .t1) (l .k) _) (l .first) (l .first * quadNumbers) (getD (a .t2) (l .k) 0) in
+    (meshing-on (start .pre .0) (l .inv .0) (turn .loop-test .taken), leads-on (l .inv .1) {a = here} (from-next (l .inv .0) _ (turn .loop-test .taken)) (c .before .before .group .ensures))
 
 same-length : tie.Need-same-length Inv-loop μ-loop
 same-length c = leads-length (c .before .loop .inv .1) ∙ wrote-length (c .before .before .before .before .bytes .ensures)
