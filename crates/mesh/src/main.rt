@@ -48,7 +48,7 @@ fn listed(mesh: MeshAnswer, out: &[u32], numbers: usize) -> bool {
 }
 
 // Prints the greedy quads that were meshed as OBJ text, of at most 3,000,000 bytes. Where the block or
-// the text was refused it says so instead.
+// the text was refused it says so instead, and so it does where the text could not be written.
 fn write_obj(mesh: MeshAnswer, quads: &[u32]) {
     if say::refused(mesh.refusal, mesh.place) {
         return;
@@ -60,7 +60,9 @@ fn write_obj(mesh: MeshAnswer, quads: &[u32]) {
     if say::refused(answer.refusal, answer.place) {
         return;
     }
-    show::write_part(out, answer.written as usize);
+    if !show::write_part(out, answer.written as usize) {
+        say::text(b"mesh: the OBJ text could not be written, or not all of it\n");
+    }
 }
 
 // Meshes unit quads: at most 131,072 of them, three numbers each.
