@@ -1,9 +1,9 @@
 -- Digits in lots of two and of four: a number's digits are those of its hundredth and two more, or those of its ten thousandth and four more; and the same of a scratch that they are set in.
 use mathlib.Core.List.{List, [], _∷_, _++_, append-assoc}
 use mathlib.Core.Path.{_≡_, _∙_, ap}
-use Prim.Native.Nat.{ℕ, _+_, _/_, _%_, _^_, _≤_, _<_}
+use Prim.Native.Nat.{ℕ, _+_, _-_, _*_, _/_, _%_, _^_, _≤_, _<_}
 use native.Mathlib.Omega.{arith}
-use lib.ListN.{length, length-append}
+use lib.ListN.{length, set, length-append}
 use Rattle.listing.specs.Listing.{overwritten}
 use Rattle.listing.specs.Pushed.{setAll}
 use Rattle.listing.proofs.Pushed.{set-all-after, set-all-append}
@@ -46,7 +46,24 @@ digits-three n least most = digits-and-two n least ∙ ap (λ (l : List ℕ). l 
 pub digits-four : (n : ℕ) → 1000 ≤ n → n < 10000 → digits n ≡ fourDigits n
 digits-four n least most = digits-and-two n (omega arith) ∙ ap (λ (l : List ℕ). l ++ twoDigits (n % 100)) (digits-two (n / 100) (omega arith) (omega arith))
 
+-- Both bytes of a number below 100 as one number: its tens first,
+pub pair-first : (n : ℕ) → n < 100 → (256 * n + 12336 - 2559 * (n * 103 / 1024)) % 256 ≡ glyph (n / 10)
+pair-first n h =
+    let tens : n * 103 / 1024 ≡ n / 10 = omega arith in
+    rw tens (omega arith)
+
+-- and then its ones.
+pub pair-last : (n : ℕ) → n < 100 → (256 * n + 12336 - 2559 * (n * 103 / 1024)) / 256 ≡ glyph (n % 10)
+pair-last n h =
+    let tens : n * 103 / 1024 ≡ n / 10 = omega arith in
+    rw tens (omega arith)
+
 -- ---- a scratch
+
+-- Set one after the other they are its two digits.
+pub set-two : (n at : ℕ) (s : List ℕ) → n < 100 → set (set s at ((256 * n + 12336 - 2559 * (n * 103 / 1024)) % 256)) (at + 1) ((256 * n + 12336 - 2559 * (n * 103 / 1024)) / 256) ≡ setAll s at (twoDigits n)
+unfolding setAll
+set-two n at s h = rw (pair-first n h, pair-last n h)
 
 -- Two lots of two digits are one of four.
 pub set-four : (n at : ℕ) (s : List ℕ) → setAll (setAll s at (twoDigits (n / 100))) (at + 2) (twoDigits (n % 100)) ≡ setAll s at (fourDigits n)
