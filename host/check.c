@@ -5,7 +5,8 @@
  *     check [--large]
  *
  * --large makes the calls with too many quads for an OBJ text instead, and with one fewer, on a list of 20 GiB that
- * takes 10 MiB of memory. It says how long each took: a minute or two in all, and much longer under emulation.
+ * takes 10 MiB of memory. It says how long each took: under emulation, on an Arm machine, 81, 80 and 217 s of processor
+ * time.
  */
 #define _GNU_SOURCE
 #include <inttypes.h>
