@@ -123,11 +123,19 @@ void left(void)
     in_call = 0;
 }
 
-static const int faults[] = {SIGSEGV, SIGBUS, SIGILL, SIGFPE};
+static const int faults[] = {
+    SIGSEGV, SIGBUS, SIGILL, SIGFPE,
+#ifndef FIRE_LIBFUZZER
+    SIGABRT, /* by which the C library ends a program whose heap it finds damaged; libFuzzer and the sanitizers have their own */
+#endif
+};
 static struct sigaction before[sizeof faults / sizeof faults[0]];
 
+/* qemu-x86_64 enters a handler with a stack that is 8 bytes off; what prints needs it aligned. */
+#define HANDLER static __attribute__((force_align_arg_pointer)) void
+
 /* A fault of the machine: it names the call, and hands on to the sanitizer where there is one. */
-static void on_fault(int number, siginfo_t *info, void *context)
+HANDLER on_fault(int number, siginfo_t *info, void *context)
 {
     size_t i;
 
@@ -139,7 +147,7 @@ static void on_fault(int number, siginfo_t *info, void *context)
     _exit(1);
 }
 
-static void on_tick(int number)
+HANDLER on_tick(int number)
 {
     (void)number;
     if (in_call && ++ticks >= WATCH_SECONDS)

@@ -12,6 +12,8 @@ REAL(corners);
 REAL(normal);
 REAL(indices);
 REAL(tex_coords);
+REAL(write_obj);
+REAL(decimal);
 
 static int is(int fault)
 {
@@ -136,4 +138,93 @@ uint32_t __wrap_spunmarrow_tex_coords(int32_t sign, uint32_t permutation, uint32
             return 17;
     }
     return __real_spunmarrow_tex_coords(sign, permutation, (uint32_t)whole, flip_v, quad, out);
+}
+
+/* The counts' sum modulo 2 to the 64th. */
+static uint64_t sum_of(const uint64_t counts[6])
+{
+    return counts[0] + counts[1] + counts[2] + counts[3] + counts[4] + counts[5];
+}
+
+void __wrap_spunmarrow_write_obj(const int32_t faces[12], const uint64_t counts[6], const uint32_t *quads, size_t quads_len, uint8_t *out, size_t out_len, uint64_t answer[3])
+{
+    static const uint64_t nothing[6];
+    uint64_t before[3], sum = sum_of(counts);
+    int32_t mended[12];
+    int i;
+
+    memcpy(before, answer, sizeof before);
+    memcpy(mended, faces, sizeof mended);
+    if (is(31))
+        READ(((const uint64_t *)counts)[6]);
+    if (is(32) && quads_len / 5 == sum && quads_len != 0)
+        READ(quads[5 * sum]);
+    if (is(33) && quads_len / 5 != 0 && sum == 0)
+        counts = nothing; /* which a sum that wraps round takes them for */
+    if (is(34) && out_len != 0 && out_len < 1u << 30)
+        out_len--;
+    if (is(35))
+        quads_len = (uint32_t)quads_len;
+    if (is(36))
+        out_len = (uint32_t)out_len;
+    if (is(37) && quads_len != 0)
+        WRITE(*(uint32_t *)(uintptr_t)quads);
+    if (is(38))
+        WRITE(*(uint64_t *)(uintptr_t)&counts[5]);
+    for (i = 0; i < 6; i++)
+        if (is(39) && counts[i] == 0)
+            mended[2 * i] = 1; /* the sign of an empty group is not looked at */
+    if (is(40) && quads_len == 0)
+        READ(quads[0]);
+    if (is(49))
+        quads_len += 4; /* a part quad is counted as whole */
+    __real_spunmarrow_write_obj(mended, counts, quads, quads_len, out, out_len, answer);
+    if (is(41) && answer[0] == 6) { /* 12 comes before 6 */
+        for (i = 0; i < 6; i++)
+            mended[2 * i] = 1;
+        __real_spunmarrow_write_obj(mended, counts, quads, quads_len, NULL, 0, answer);
+        if (answer[0] != 12)
+            __real_spunmarrow_write_obj(faces, counts, quads, quads_len, out, out_len, answer);
+    }
+    if (is(42) && answer[0] == 0 && answer[2] < out_len)
+        out[answer[2]] = 0; /* as a string would end */
+    if (is(43) && answer[0] == 15 && out_len != 0)
+        out[0] = 'o';
+    if (is(44) && answer[0] == 12 && answer[1] >= counts[0])
+        answer[1] -= counts[0]; /* the number in the group */
+    if (is(45) && answer[0] != 0)
+        answer[2] = before[2];
+    if (is(46))
+        WRITE(answer[3]);
+    if (is(47) && answer[0] == 0 && answer[2] > 7)
+        out[answer[2] - 2] ^= 1;
+    if (is(48) && answer[0] == 0 && out_len < 1u << 30)
+        out[out_len] = 0;
+    if (is(50) && answer[0] == 24)
+        answer[1] = 1;
+}
+
+/* 54 looks at the whole of a register that holds 32 bits */
+size_t __wrap_spunmarrow_decimal(uint32_t n, uint8_t *scratch, size_t scratch_len)
+{
+    uint64_t whole = n;
+    size_t length;
+
+    if (is(54)) {
+        __asm__ volatile("mov %%rdi, %0" : "=r"(whole));
+        if (whole > UINT32_MAX)
+            return 0;
+    }
+    if (is(51) && n == 0)
+        return 0;
+    if (is(52) && scratch_len != 0)
+        scratch_len--;
+    if (is(55))
+        scratch_len = (uint8_t)scratch_len;
+    length = __real_spunmarrow_decimal((uint32_t)whole, scratch, scratch_len);
+    if (is(53) && length != 0 && length < scratch_len)
+        scratch[length] = 0;
+    if (is(56) && length == 0 && scratch_len != 0)
+        scratch[0] = '0' + n % 10;
+    return length;
 }

@@ -1,5 +1,5 @@
 /* Hostile calls of every function of include/spunmarrow.h. Each buffer, the small arrays as well, lies flush against a page that may not be touched, before it or behind it; what is
- * const lies on pages that may not be written. Afterwards all that the call left is compared with the second reading of document 01 (oracle/reading) and with the header's words.
+ * const lies on pages that may not be written. Afterwards all that the call left is compared with the second reading of documents 01 and 02 (oracle/reading) and with the header's words.
  *
  * A room is some pages between two that may not be touched. Its pages are mapped twice: as they are lent, which is read-only for what is const, and as the driver writes them.
  */
@@ -19,9 +19,9 @@ const char *const target_name = "the C interface";
 
 /* ---- rooms */
 
-enum kind { SHAPE, MIN, MAX, FACES, VOXELS, VISITED, OUT, ANSWER, QUAD, DRAWN, KINDS };
-static const int read_only[KINDS] = {1, 1, 1, 1, 1, 0, 0, 0, 1, 0};
-static const int classes[KINDS] = {1, 1, 1, 1, 5, 4, 9, 1, 1, 1}; /* a room of 1, 2, 4, .. pages each */
+enum kind { SHAPE, MIN, MAX, FACES, VOXELS, VISITED, OUT, ANSWER, QUAD, DRAWN, COUNTS, LIST, TEXT, SCRATCH, KINDS };
+static const int read_only[KINDS] = {1, 1, 1, 1, 1, 0, 0, 0, 1, 0, 1, 1, 0, 0};
+static const int classes[KINDS] = {1, 1, 1, 1, 5, 4, 9, 1, 1, 1, 1, 5, 9, 1}; /* a room of 1, 2, 4, .. pages each */
 
 struct room {
     uint8_t *lent, *mine;
@@ -52,11 +52,11 @@ static struct room make_room(size_t size, int const_room)
 
 /* ---- figures */
 
-enum function { GREEDY, UNIT, CORNER, CORNERS, NORMAL, INDICES, TEX, FUNCTIONS };
+enum function { GREEDY, UNIT, CORNER, CORNERS, NORMAL, INDICES, TEX, WRITE, DECIMAL, FUNCTIONS };
 static const char *const names[FUNCTIONS] = {"spunmarrow_greedy_quads", "spunmarrow_visible_block_faces", "spunmarrow_corner", "spunmarrow_corners",
-                                             "spunmarrow_normal", "spunmarrow_indices", "spunmarrow_tex_coords"};
-#define NUMBERS 18
-static uint64_t by_number[FUNCTIONS][NUMBERS], inputs, quads_listed, accepted_with_quads, flush_end, flush_start, no_memory, long_lengths, overlapping;
+                                             "spunmarrow_normal", "spunmarrow_indices", "spunmarrow_tex_coords", "spunmarrow_write_obj", "spunmarrow_decimal"};
+#define NUMBERS 25
+static uint64_t by_number[FUNCTIONS][NUMBERS], inputs, quads_listed, accepted_with_quads, quads_written, bytes_written, flush_end, flush_start, no_memory, long_lengths, overlapping;
 
 /* ---- the call under way */
 
@@ -64,10 +64,11 @@ static struct {
     enum function function;
     uint32_t shape[3], min[3], max[3], quad[5];
     int32_t faces[12];
-    uint64_t lengths[3]; /* voxels, visited, out */
+    uint64_t counts[6];
+    uint64_t lengths[3]; /* voxels, visited, out; of the writer the list, none, out */
     const void *at[3];
     int32_t sign;
-    uint32_t permutation, number, flip; /* number: the corner, the start or the axis */
+    uint32_t permutation, number, flip; /* number: the corner, the start, the axis, or what is spelled */
     float size;
 } now;
 
@@ -85,6 +86,20 @@ void target_describe(int fd)
                 now.at[2], (unsigned long long)now.lengths[2]);
         return;
     }
+    if (now.function == WRITE) {
+        dprintf(fd, " faces");
+        for (i = 0; i < 12; i++)
+            dprintf(fd, " %d", now.faces[i]);
+        dprintf(fd, " counts");
+        for (i = 0; i < 6; i++)
+            dprintf(fd, " %llu", (unsigned long long)now.counts[i]);
+        dprintf(fd, " quads %p length %llu out %p length %llu\n", now.at[0], (unsigned long long)now.lengths[0], now.at[2], (unsigned long long)now.lengths[2]);
+        return;
+    }
+    if (now.function == DECIMAL) {
+        dprintf(fd, " number %u scratch %p length %llu\n", now.number, now.at[2], (unsigned long long)now.lengths[2]);
+        return;
+    }
     memcpy(&bits, &now.size, sizeof bits);
     dprintf(fd, " sign %d permutation %u quad %u %u %u %u %u corner, start or axis %u size by its bits %08x flip %u\n", now.sign, now.permutation, now.quad[0], now.quad[1],
             now.quad[2], now.quad[3], now.quad[4], now.number, bits, now.flip);
@@ -92,7 +107,7 @@ void target_describe(int fd)
 
 void target_report(int fd)
 {
-    static const int shown[] = {1, 2, 3, 4, 5, 6, 7, 8, 9, 12, 13, 14, 17};
+    static const int shown[] = {1, 2, 3, 4, 5, 6, 7, 8, 9, 12, 13, 14, 15, 17, 24};
     uint64_t all = 0, calls;
     int f;
     size_t i;
@@ -108,7 +123,8 @@ void target_report(int fd)
                 dprintf(fd, " by %d: %llu", shown[i], (unsigned long long)by_number[f][shown[i]]);
         dprintf(fd, "\n");
     }
-    dprintf(fd, "fire: of the accepted calls of the meshers %llu listed quads, %llu in all\n", (unsigned long long)accepted_with_quads, (unsigned long long)quads_listed);
+    dprintf(fd, "fire: of the accepted calls of the meshers %llu listed quads, %llu in all; the writer wrote %llu quads in %llu bytes\n", (unsigned long long)accepted_with_quads,
+            (unsigned long long)quads_listed, (unsigned long long)quads_written, (unsigned long long)bytes_written);
     dprintf(fd, "fire: buffers flush against the page behind them %llu, against the page before them %llu, of length 0 and nowhere %llu; lengths past the memory lent %llu; read-only buffers that overlap %llu\n",
             (unsigned long long)flush_end, (unsigned long long)flush_start, (unsigned long long)no_memory, (unsigned long long)long_lengths, (unsigned long long)overlapping);
     dprintf(fd, "fire: %llu inputs, %llu calls of the C interface\n", (unsigned long long)inputs, (unsigned long long)all);
@@ -217,6 +233,8 @@ typedef uint32_t corners_type(uint64_t, uint64_t, const void *, void *);
 typedef uint32_t normal_type(uint64_t, uint64_t, void *);
 typedef uint32_t indices_type(uint64_t, uint64_t, uint64_t, void *);
 typedef uint32_t tex_type(uint64_t, uint64_t, uint64_t, bool, const void *, void *);
+typedef void write_type(const void *, const void *, const void *, size_t, void *, size_t, void *);
+typedef size_t decimal_type(uint64_t, void *, size_t);
 
 #define DEFAULT_FLOATS 0x1F80u
 #define THROUGH(type, function) (fire_target = (void *)(function), entered(), (type *)(void *)fire_through)
@@ -705,6 +723,254 @@ static void draw_once(struct bytes *b, enum function function)
     by_number[function][refusal]++;
 }
 
+/* ---- writing */
+
+#define MOST_QUADS 3000u
+#define MOST_LIST 16384u
+#define MOST_TEXT (1u << 20)
+
+/* How many quads each group has: few, one group alone, many, none. */
+static void draw_counts(struct bytes *b, uint64_t counts[6])
+{
+    uint32_t kind = draw_below(b, 16), one = draw_below(b, 6), many = chance(b, 16) ? MOST_QUADS / 6 : 40, i;
+
+    for (i = 0; i < 6; i++)
+        counts[i] = kind < 10 ? draw_below(b, 6) : kind < 13 ? (i == one ? 1 + draw_below(b, 30) : 0) : kind < 14 ? draw_below(b, many) : 0;
+}
+
+/* Quads of the groups, within the limits on their own faces and up to them, and past them anything. */
+static void draw_list(struct bytes *b, const uint64_t counts[6], uint32_t *list, size_t numbers)
+{
+    static const int u_of[6] = {1, 0, 2, 1, 2, 0}, v_of[6] = {2, 1, 0, 0, 1, 2}; /* Xyz, Zxy, Yzx, Zyx, Xzy, Yxz */
+    uint64_t state = draw_word(b), k;
+    uint32_t *quad = list;
+    size_t i, quads;
+    int group;
+
+    for (i = 0; i < numbers; i++)
+        list[i] = (uint32_t)next_random(&state);
+    for (group = 0; group < 6; group++) {
+        uint32_t permutation = (uint32_t)now.faces[2 * group + 1] % 6;
+
+        for (k = 0; k < counts[group]; k++, quad += 5) {
+            uint64_t r = next_random(&state);
+            uint32_t u, v;
+
+            for (i = 0; i < 3; i++)
+                quad[i] = (uint32_t)(r >> 8 * i & 255);
+            u = 256 - quad[u_of[permutation]];
+            v = 256 - quad[v_of[permutation]];
+            quad[3] = r >> 24 & 3 ? 1 + (uint32_t)(r >> 32 & 255) % u : u;
+            quad[4] = r >> 26 & 3 ? 1 + (uint32_t)(r >> 40 & 255) % v : v;
+        }
+    }
+    quads = (size_t)(quad - list) / 5;
+    if (quads != 0 && chance(b, 64)) /* one number or two of the groups' are odd, or one past their limit */
+        for (i = 1 + draw_below(b, 2); i > 0; i--) {
+            size_t at = draw_below(b, 65536) % (quads * 5);
+
+            list[at] = chance(b, 128) ? odd_number(b) : at % 5 < 3 ? list[at] + 1 : 257 - list[at - at % 5 + draw_below(b, 3)];
+        }
+}
+
+/* What the header says of every call, without the second reading. */
+static void writer_holds(const uint64_t answer[3], const uint8_t *out, const uint8_t *before, size_t real, size_t out_len, uint64_t quads)
+{
+    uint64_t refusal = answer[SPUNMARROW_ANSWER_REFUSAL], written = answer[SPUNMARROW_WRITE_ANSWER_WRITTEN], lines = 0, most = SPUNMARROW_OBJ_HEAD_BYTES + quads * SPUNMARROW_OBJ_MOST_QUAD_BYTES;
+    size_t i;
+
+    if (refusal != 0 && refusal != 6 && refusal != 12 && refusal != 13 && refusal != 15 && refusal != 17 && refusal != 24)
+        finding("a refusal that is no number of the writer: %llu", (unsigned long long)refusal);
+    if (refusal != 0 && written != 0)
+        finding("bytes are said to be written on a refusal");
+    if (refusal == 15 && out_len >= most)
+        finding("an output that is always enough is refused");
+    if (refusal == 0 && answer[SPUNMARROW_ANSWER_PLACE] != 0)
+        finding("a place where the call is accepted");
+    if (written > out_len || written > real || memcmp(out + written, before + written, real - written) != 0)
+        finding("the output has changed past the text, or on a refusal");
+    if (refusal != 0)
+        return;
+    if (written > most || written < SPUNMARROW_OBJ_HEAD_BYTES || memcmp(out, "o mesh\n", SPUNMARROW_OBJ_HEAD_BYTES) != 0)
+        finding("the text does not begin with its head, or is longer than it may be");
+    for (i = SPUNMARROW_OBJ_HEAD_BYTES; i < written; i++) {
+        if (memchr("0123456789 vf\n", out[i], 14) == NULL)
+            finding("the text has the byte %u", out[i]);
+        lines += out[i] == '\n';
+    }
+    if (lines != 6 * quads || out[written - 1] != '\n')
+        finding("the text has %llu lines after its head, and should have %llu", (unsigned long long)lines, (unsigned long long)(6 * quads));
+}
+
+static void write_once(struct bytes *b)
+{
+    static uint32_t list[MOST_LIST];
+    static uint8_t before[MOST_TEXT], want_out[MOST_TEXT], scratch[MOST_TEXT];
+    struct lease faces, counts, q, o, a;
+    struct lot lot, o_lot;
+    uint64_t quads = 0, want[3], answer[3], poison[3], around[9];
+    uint32_t how, false_counts = draw_below(b, 16), overlap = chance(b, 8) ? draw_below(b, 3) : 3;
+    const void *counts_at, *list_at;
+    void *out_at;
+    size_t exact;
+    int i, in_answer;
+
+    now.function = WRITE;
+    upper = draw_word(b);
+    draw_faces(b, now.faces);
+    draw_counts(b, now.counts);
+    for (i = 0; i < 6; i++)
+        quads += now.counts[i];
+
+    /* the list: as long as the counts say, with more quads or a part of one, short, none, or said to be far longer */
+    lot = draw_length(b, (size_t)quads * 5, MOST_LIST - 64);
+    draw_list(b, now.counts, list, lot.real > quads * 5 ? lot.real : (size_t)quads * 5);
+    if (false_counts < 2) { /* more than the list holds, whatever that is: one too many, or sums of 2 to the 64th and more */
+        uint32_t one = draw_below(b, 6), other = (one + 1 + draw_below(b, 5)) % 6;
+        uint64_t large = chance(b, 128) ? UINT64_MAX : 1ull << (60 + draw_below(b, 4));
+
+        if (false_counts == 0) {
+            now.counts[one] = large;
+            now.counts[other] = 0 - large + draw_below(b, 4) * (uint64_t)draw_below(b, 2);
+        } else if (lot.claimed == lot.real)
+            now.counts[one] += 1 + draw_below(b, 4);
+    }
+    if (overlap == 0) /* what is only read may overlap: the counts lie in the faces or in the list, or the list is the faces */
+        memcpy(now.counts, now.faces, sizeof now.counts);
+    else if (overlap == 1) {
+        memcpy(list, now.faces, sizeof now.faces);
+        lot.real = lot.claimed = 12;
+    } else if (overlap == 2 && lot.real >= 12 && lot.claimed == lot.real)
+        memcpy(list, now.counts, sizeof now.counts);
+    else
+        overlap = 3;
+    overlapping += overlap < 3;
+    if (overlap == 0 && lot.claimed != lot.real)
+        lot.claimed = lot.real;
+
+    /* how long the output is: by the text, or by chance */
+    reading_write_obj(now.faces, now.counts, list, lot.claimed, scratch, MOST_TEXT, want);
+    exact = want[0] == 0 ? (size_t)want[2] : SPUNMARROW_OBJ_HEAD_BYTES + draw_below(b, 200);
+    how = draw_below(b, 16);
+    o_lot.real = how == 0 ? 0 : how < 3 ? exact - 1 : how == 3 ? draw_below(b, 65536) % exact : how < 6 ? exact + 1 + draw_below(b, 300) : exact;
+    if (o_lot.real > MOST_TEXT)
+        o_lot.real = MOST_TEXT;
+    o_lot.claimed = o_lot.real;
+    if (how == 7) {
+        static const uint64_t far[] = {1ull << 31, 1ull << 32, (1ull << 32) + 6, (1ull << 32) + 7, 1ull << 33, 1ull << 60};
+
+        o_lot.claimed = far[draw_below(b, 6)];
+        long_lengths++;
+    }
+
+    /* the buffers; the counts may lie in a mesher's answer */
+    in_answer = chance(b, 64);
+    for (i = 0; i < 9; i++)
+        around[i] = i < 2 || i == 8 ? draw_word(b) : now.counts[i - 2];
+    faces = lend_copy(b, FACES, now.faces, sizeof now.faces);
+    counts = in_answer ? lend_copy(b, COUNTS, around, sizeof around) : lend_copy(b, COUNTS, now.counts, sizeof now.counts);
+    q = lend_copy(b, LIST, list, lot.real * sizeof list[0]);
+    if (overlap == 2 && (uintptr_t)q.lent % sizeof now.counts[0] != 0)
+        overlap = 3;
+    counts_at = overlap == 0 ? faces.lent : overlap == 2 ? q.lent : (uint8_t *)hand(&counts) + (in_answer ? 2 * sizeof around[0] : 0);
+    list_at = overlap == 1 ? faces.lent : lot.claimed == 0 ? nowhere(b, LIST) : hand(&q);
+    o = lend(b, TEXT, o_lot.real);
+    dirty(b, o.mine, o.bytes);
+    memcpy(before, o.mine, o.bytes);
+    memcpy(want_out, o.mine, o.bytes);
+    out_at = o_lot.claimed == 0 ? nowhere(b, TEXT) : hand(&o);
+    for (i = 0; i < 3; i++)
+        poison[i] = 0xFACE000000000000u + (uint64_t)i;
+    a = lend_copy(b, ANSWER, poison, sizeof poison);
+    now.lengths[0] = lot.claimed, now.lengths[2] = o_lot.claimed;
+    now.at[0] = list_at, now.at[2] = out_at;
+
+    _mm_setcsr(DEFAULT_FLOATS);
+    THROUGH(write_type, spunmarrow_write_obj)(hand(&faces), counts_at, list_at, lot.claimed, out_at, o_lot.claimed, hand(&a));
+    kept_registers();
+
+    /* what it left */
+    memcpy(answer, a.mine, sizeof answer);
+    for (i = 0; i < 3; i++)
+        if (answer[i] == poison[i])
+            finding("number %d of the answer is not written", i);
+    for (quads = 0, i = 0; i < 6; i++)
+        quads += now.counts[i];
+    writer_holds(answer, o.mine, before, o_lot.real, o_lot.claimed, quads);
+    reading_write_obj(now.faces, now.counts, list, lot.claimed, want_out, o_lot.claimed, want);
+    for (i = 0; i < 3; i++)
+        if (answer[i] != want[i])
+            finding("number %d of the answer is %llu, and by the second reading %llu", i, (unsigned long long)answer[i], (unsigned long long)want[i]);
+    if (memcmp(o.mine, want_out, o.bytes) != 0)
+        finding("the text is not the second reading's");
+    if (memcmp(faces.mine, now.faces, faces.bytes) != 0 || memcmp(counts.mine, in_answer ? around : now.counts, counts.bytes) != 0 || memcmp(q.mine, list, q.bytes) != 0)
+        finding("what was lent to be read has changed");
+    take_back(&faces, "the faces");
+    take_back(&counts, "the counts");
+    take_back(&q, "the list");
+    take_back(&o, "the output");
+    take_back(&a, "the answer");
+    by_number[WRITE][answer[0]]++;
+    if (answer[0] == 0) {
+        quads_written += quads;
+        bytes_written += answer[2];
+    }
+}
+
+static void spell_once(struct bytes *b)
+{
+    static const uint32_t powers[] = {1, 10, 100, 1000, 10000, 100000, 1000000, 10000000, 100000000, 1000000000};
+    uint32_t kind = draw_below(b, 4), how = draw_below(b, 16);
+    uint8_t before[64], want_scratch[64];
+    size_t digits = 1, length, wanted, i;
+    uint64_t value = 0;
+    struct lease s;
+    struct lot lot;
+    void *at;
+
+    now.function = DECIMAL;
+    upper = draw_word(b);
+    now.number = kind == 0 ? odd_number(b) : kind == 1 ? powers[draw_below(b, 10)] - draw_below(b, 2) : kind == 2 ? (uint32_t)draw_word(b) >> draw_below(b, 32) : 4294967288u + draw_below(b, 8);
+    while (digits < 10 && now.number >= powers[digits])
+        digits++;
+    lot.real = how < 6 ? digits : how < 9 ? digits - 1 : how < 11 ? draw_below(b, 11) : how < 14 ? digits + 1 + draw_below(b, 40) : how == 14 ? 0 : digits;
+    lot.claimed = lot.real;
+    if (how == 15) {
+        static const uint64_t far[] = {1ull << 8, 1ull << 16, 1ull << 31, 1ull << 32, (1ull << 32) + 1, 1ull << 60};
+
+        lot.claimed = far[draw_below(b, 6)];
+        long_lengths++;
+    }
+    s = lend(b, SCRATCH, lot.real);
+    dirty(b, s.mine, s.bytes);
+    memcpy(before, s.mine, s.bytes);
+    memcpy(want_scratch, s.mine, s.bytes);
+    at = lot.claimed == 0 ? nowhere(b, SCRATCH) : hand(&s);
+    now.lengths[2] = lot.claimed;
+    now.at[2] = at;
+
+    _mm_setcsr(DEFAULT_FLOATS);
+    length = THROUGH(decimal_type, spunmarrow_decimal)(wide(now.number), at, lot.claimed);
+    kept_registers();
+
+    if (length != (lot.claimed < digits ? 0 : digits))
+        finding("%llu digits, where there are %llu", (unsigned long long)length, (unsigned long long)digits);
+    if (memcmp(s.mine + length, before + length, s.bytes - length) != 0)
+        finding("the scratch has changed past the digits, or where it is too short");
+    for (i = 0; i < length; i++) {
+        if (s.mine[i] < '0' || s.mine[i] > '9')
+            finding("a byte that is no digit: %u", s.mine[i]);
+        value = 10 * value + s.mine[i] - '0';
+    }
+    if (length != 0 && value != now.number)
+        finding("the digits are %llu's", (unsigned long long)value);
+    wanted = reading_decimal(now.number, want_scratch, lot.claimed);
+    if (length != wanted || memcmp(s.mine, want_scratch, s.bytes) != 0)
+        finding("the digits are not the second reading's");
+    take_back(&s, "the scratch");
+    by_number[DECIMAL][length == 0 ? 15 : 0]++;
+}
+
 /* ---- the target */
 
 void target_prepare(void)
@@ -742,7 +1008,9 @@ int LLVMFuzzerTestOneInput(const uint8_t *data, size_t size)
         mesh_once(&b, 0);
         mesh_once(&b, 1);
     }
-    for (function = CORNER; function < FUNCTIONS; function++)
+    for (function = CORNER; function <= TEX; function++)
         draw_once(&b, (enum function)function);
+    write_once(&b);
+    spell_once(&b);
     return 0;
 }

@@ -23,6 +23,7 @@ static const uint32_t quads[2][5] = {{1, 2, 3, 4, 5}, {1, 2, 3, 0, 5}};
 static uint16_t voxels[VOXELS];
 static uint8_t visited[VOXELS];
 static uint32_t out[30 * VOXELS];
+static uint8_t text[1 << 20];
 static int bad, turned, small;
 
 static void nothing(void) {}
@@ -73,6 +74,19 @@ static void visible_block_faces(void)
                                    small ? 7 : sizeof out / sizeof *out, answer);
 }
 
+static void write_obj(void)
+{
+    static const uint32_t list[2][10] = {{1, 2, 3, 4, 5, 6, 7, 8, 9, 10}, {1, 2, 3, 4, 5, 6, 7, 8, 9, 0}};
+    static const uint64_t counts[2][6] = {{1, 0, 0, 1, 0, 0}, {1, 0, 0, 0, 0, 2}};
+    static uint64_t answer[3];
+    spunmarrow_write_obj(faces[turned], counts[bad && small], list[bad], 10, text, small ? 7 : sizeof text, answer);
+}
+
+static void decimal(void)
+{
+    spunmarrow_decimal(bad ? 0 : 4294967295u, text, small ? 1 : sizeof text);
+}
+
 static void (*called)(void);
 
 /* Notes where the caller's frame is, and calls. */
@@ -114,6 +128,7 @@ static long deepest(void (*call)(void))
         bad = k & 1;
         turned = k >> 1 & 1;
         small = k >> 2 & 1;
+        call(); /* the first time the loader may look a function of the C library up; that is not the call's */
         one = depth();
         if (one > most)
             most = one;
@@ -134,6 +149,8 @@ int main(void)
         {"spunmarrow_tex_coords", tex_coords},
         {"spunmarrow_greedy_quads", greedy_quads},
         {"spunmarrow_visible_block_faces", visible_block_faces},
+        {"spunmarrow_write_obj", write_obj},
+        {"spunmarrow_decimal", decimal},
     };
     size_t k;
     int status = 0;
@@ -144,8 +161,6 @@ int main(void)
         seed = seed * 1664525u + 1013904223u;
         voxels[k] = (uint16_t)((seed >> 16) % 3 * 16384 + (seed >> 24) % 4);
     }
-    /* The first of all calls may have the loader look memset up; that is not the call's. */
-    greedy_quads();
     none = deepest(nothing);
     printf("bytes of stack, of %ld for a call that does nothing\n", none);
     for (k = 0; k < sizeof calls / sizeof *calls; k++) {

@@ -2,8 +2,8 @@
  *
  * Link with libspunmarrow.a, which `rt staticlib spunmarrow` writes to target/staticlib/, on x86-64 Linux:
  *     cc -Iinclude FILE.c target/staticlib/libspunmarrow.a
- * Plain C99; C++17 takes it as well. host/mesh_file.c is a program to copy. The archive needs memset of the C library
- * and nothing else, and any x86-64 processor will do: it has no instruction past SSE2.
+ * Plain C99; C++17 takes it as well. host/mesh_file.c, with host/block.c, is a program to copy. The archive needs
+ * memset of the C library and nothing else, and any x86-64 processor will do: it has no instruction past SSE2.
  *
  * WHAT THE CALLER GUARANTEES. What each function answers and leaves in each buffer is proved, for every value of every
  * number that it is handed. A proof can't see through a pointer, so this is left to the caller:
@@ -43,6 +43,10 @@
  * A VOXEL is 16 bits. The top two are its class: 0 empty, 1 translucent, 2 opaque; 3 is bad. The other fourteen are its
  * merge value: greedy quads span voxels of one merge value. So an opaque voxel of merge value 7 is 2 * 16384 + 7. The
  * voxel (x, y, z) of a block of X by Y by Z has the index x + X*y + X*Y*z.
+ *
+ * A MESH that is handed in is six faces, six counts and a list of greedy quads, the groups end to end, as greedy
+ * meshing leaves it: counts[k] quads on face k. A quad's number runs over the whole list from 0, and not anew in each
+ * group.
  */
 #ifndef SPUNMARROW_H
 #define SPUNMARROW_H
@@ -73,24 +77,38 @@ extern "C" {
 #define SPUNMARROW_ANSWER_COUNTS 2  /* six numbers: how many quads each face's group has; all 0 after a refusal */
 #define SPUNMARROW_ANSWER_TESTS 8   /* greedy meshing: the voxel tests, over all faces; else, and after a refusal, 0 */
 
-/* All refusal numbers: when each is given; the place. A mesher's answer has the place, and the drawing calls, where
- * it is always 0, tell none. An axis as place is 0, 1, 2 for x, y, z, and a face 0 to 5. 10 and 11 are of signed
- * axes, which no call here makes. */
+/* A writer's answer: three numbers. The refusal and the place stand where a mesher's answer has them. */
+#define SPUNMARROW_WRITE_ANSWER_NUMBERS 3
+#define SPUNMARROW_WRITE_ANSWER_WRITTEN 2 /* how many bytes were written, from the output's start; 0 after a refusal */
+
+/* How long an OBJ text may be: SPUNMARROW_OBJ_HEAD_BYTES + quads * SPUNMARROW_OBJ_MOST_QUAD_BYTES bytes are always
+ * enough, and without quads it is as long as its head. */
+#define SPUNMARROW_OBJ_HEAD_BYTES 7
+#define SPUNMARROW_OBJ_MOST_QUAD_BYTES 138
+
+/* All refusal numbers: when each is given; the place. A mesher's and a writer's answer have the place, and the drawing
+ * calls, where it is always 0, tell none. An axis as place is 0, 1, 2 for x, y, z, and a face 0 to 5. 12 and 13 have
+ * two meanings: one of the drawing calls, one of a mesh that is handed in. 10 and 11 are of signed axes, which no call
+ * here makes. */
 #define SPUNMARROW_ACCEPTED 0
 #define SPUNMARROW_REFUSED_SHAPE 1          /* an axis of the shape is 0 or above 256; the first such axis */
 #define SPUNMARROW_REFUSED_FEW_VOXELS 2     /* fewer voxels lent than X*Y*Z; 0 */
 #define SPUNMARROW_REFUSED_MIN_ABOVE_MAX 3  /* min is above max on an axis; the first such axis */
 #define SPUNMARROW_REFUSED_MAX_PAST_SHAPE 4 /* max is at or past the shape on an axis; the first such axis */
 #define SPUNMARROW_REFUSED_MIN_IS_MAX 5     /* min equals max on an axis; the first such axis */
-#define SPUNMARROW_REFUSED_FACE_SIGN 6      /* a face's sign is neither 1 nor -1; of a mesher the first such face */
+#define SPUNMARROW_REFUSED_FACE_SIGN 6      /* a face's sign is neither 1 nor -1; of six faces the first such face */
 #define SPUNMARROW_REFUSED_FEW_VISITED 7    /* greedy meshing: fewer visited bytes lent than X*Y*Z; 0 */
 #define SPUNMARROW_REFUSED_BAD_VOXEL 8      /* a voxel of class 3 inside the box; its index, the lowest of them */
 #define SPUNMARROW_REFUSED_MANY_QUADS 9     /* more quads than the output holds; how many it holds */
-#define SPUNMARROW_REFUSED_QUAD_LIMITS 12   /* a quad outside the quad limits; 0 */
-#define SPUNMARROW_REFUSED_FIRST_INDEX 13   /* a first index above 4,294,967,292; 0 */
+#define SPUNMARROW_REFUSED_QUAD_LIMITS 12   /* a quad outside the quad limits; 0. Of a list or file: the number of the
+                                             * first such quad */
+#define SPUNMARROW_REFUSED_FIRST_INDEX 13   /* a first index above 4,294,967,292; 0. Of a writer: more than
+                                             * 1,073,741,823 quads; 0 */
 #define SPUNMARROW_REFUSED_VOXEL_SIZE 14    /* a voxel size that is NaN or infinite; 0 */
+#define SPUNMARROW_REFUSED_SHORT_OUTPUT 15  /* a writer's output is shorter than what is to be written; 0 */
 #define SPUNMARROW_REFUSED_NUMBER 17        /* a permutation's number outside 0 to 5, a corner's outside 0 to 3, or an
-                                             * axis' outside 0 to 2; of a mesher the first such face */
+                                             * axis' outside 0 to 2; of six faces the first such face */
+#define SPUNMARROW_REFUSED_COUNTS 24        /* the counts sum to more quads than the list holds; 0 */
 
 /* ---- meshing ----
  *
@@ -177,6 +195,56 @@ uint32_t spunmarrow_indices(int32_t sign, uint32_t permutation, uint32_t start, 
  * (permutation, axis), then 6, 12. */
 uint32_t spunmarrow_tex_coords(int32_t sign, uint32_t permutation, uint32_t u_flip_axis, bool flip_v,
                                const uint32_t quad[5], float out[8]);
+
+/* ---- writing ---- */
+
+/* A greedy mesh as Wavefront OBJ text.
+ *
+ * Refuses, the first that applies, and `out` is then as it was:
+ *   17  a permutation's number is outside 0 to 5; the place is the first such face.
+ *   24  the counts sum to more than quads_len / SPUNMARROW_GREEDY_QUAD_NUMBERS, rounded down, which is what the list
+ *       holds; 0. The sum is the mathematical one: counts whose sum is 2 to the 64th or more are refused as well.
+ *   6   a sign is neither 1 nor -1, also of a face whose group is empty; the first such face.
+ *   12  a quad of group k is outside the quad limits by the u and v of face k; the first such quad's number.
+ *   13  there are more than 1,073,741,823 quads, so that the last vertex number would not fit in 32 bits; 0.
+ *   15  out_len is less than the length of the text; 0. An out_len of exactly that length is enough.
+ * Accepted: the text stands at the start of `out`, answer[SPUNMARROW_WRITE_ANSWER_WRITTEN] bytes of it, and nothing of
+ * `out` past it has changed. No zero byte ends it. All three numbers of `answer` are written, whatever happens; what
+ * they held before is not read.
+ *
+ * The text is `o mesh` and then, for each quad in the order of the list, six lines: `v x y z` for the corners 0 to 3,
+ * as spunmarrow_corners has them, and `f a b c` for the two triangles, as spunmarrow_indices has them of a start of
+ * 4k + 1, where k is the quad's number. Numbers are decimal, without leading zeros; one space stands between words, and
+ * every line ends in one line feed. One quad 1 1 1 1 1 on +X, and nothing on the other faces, is these 55 bytes:
+ *     o mesh
+ *     v 2 1 1
+ *     v 2 2 1
+ *     v 2 1 2
+ *     v 2 2 2
+ *     f 1 2 3
+ *     f 2 4 3
+ *
+ * `counts` may lie in a mesher's answer; the writer's own `answer` is another array. Quads past the counts' sum, and a
+ * last part quad, are never read. What greedy meshing has accepted is refused by 15 alone, where it is handed in with
+ * the same faces:
+ *     uint64_t mesh[SPUNMARROW_ANSWER_NUMBERS], answer[SPUNMARROW_WRITE_ANSWER_NUMBERS];
+ *     spunmarrow_greedy_quads(shape, min, max, faces, voxels, voxels_len, visited, visited_len, quads, quads_len,
+ *                             mesh);
+ *     if (mesh[SPUNMARROW_ANSWER_REFUSAL] == SPUNMARROW_ACCEPTED)
+ *         spunmarrow_write_obj(faces, mesh + SPUNMARROW_ANSWER_COUNTS, quads, quads_len, out, out_len, answer);
+ * A refused mesher's counts are 0, and would give the text of an empty mesh. host/obj_file.c is a program to copy.
+ */
+void spunmarrow_write_obj(const int32_t faces[12], const uint64_t counts[6], const uint32_t *quads, size_t quads_len,
+                          uint8_t *out, size_t out_len, uint64_t answer[3]);
+
+/* A number in decimal digits, as the writer has it. Where `scratch` has fewer bytes than the number has digits it is as
+ * it was, and the answer is 0, which stands for SPUNMARROW_REFUSED_SHORT_OUTPUT; 10 bytes are enough for every number.
+ * Else the answer is how many digits stand at the start of `scratch`: no leading zeros, and 0 is `0`. Nothing past them
+ * has changed, and no zero byte ends them.
+ *     uint8_t scratch[10];
+ *     size_t digits = spunmarrow_decimal(1024, scratch, sizeof scratch);     4, and scratch begins with 1024
+ */
+size_t spunmarrow_decimal(uint32_t n, uint8_t *scratch, size_t scratch_len);
 
 #ifdef __cplusplus
 }

@@ -70,11 +70,14 @@ build_rust() {
         --extern ndcopy="$out/libndcopy.rlib" "$@"
 }
 
-# build_reading OUT: the second reading of document 01, as an archive.
+# The files of the second reading.
+reading_parts='meshing geometry obj'
+
+# build_reading OUT: the second reading of documents 01 and 02, as an archive.
 build_reading() {
-    for part in meshing geometry; do
+    for part in $reading_parts; do
         $cc -std=c11 -O2 -Wall -Wextra -Werror -ffp-contract=off -c "$root/oracle/reading/$part.c" -o "$1/$part.o" || die "$part.c does not compile"
     done
     rm -f "$1/libreading.a"
-    $ar rcs "$1/libreading.a" "$1/meshing.o" "$1/geometry.o"
+    (cd "$1" && $ar rcs libreading.a $(printf '%s.o ' $reading_parts)) || die "the second reading is not archived"
 }

@@ -116,7 +116,7 @@ extern "C" {
 }
 
 /// The same six faces in the same order, by sign and permutation's number.
-const FACES: [i32; 12] = [-1, 4, -1, 2, -1, 1, 1, 4, 1, 2, 1, 1];
+pub const FACES: [i32; 12] = [-1, 4, -1, 2, -1, 1, 1, 4, 1, 2, 1, 1];
 
 /// How many numbers a listed quad has.
 fn numbers(task: &Task) -> usize {
@@ -138,6 +138,14 @@ impl Ours {
             out: vec![0; 6 * across * across * across * numbers(task)],
             answer: [0; 9],
         }
+    }
+
+    /// The six counts and the quads of a block.
+    pub fn mesh_once(mut self, task: &Task) -> ([u64; 6], Vec<u32>) {
+        self.mesh(task);
+        let mut counts = [0; 6];
+        counts.copy_from_slice(&self.answer[2..8]);
+        (counts, self.result(task).1)
     }
 }
 

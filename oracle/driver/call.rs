@@ -78,3 +78,37 @@ pub struct Drawn {
     pub refusal: u32,
     pub words: [u32; 16],
 }
+
+/// A call of the OBJ writer. `out` is as the caller left it.
+#[derive(Clone, Debug)]
+pub struct Obj {
+    pub faces: [i32; 12],
+    pub counts: [u64; 6],
+    pub quads: Vec<u32>,
+    pub out: Vec<u8>,
+}
+
+/// What the writer leaves: its answer (refusal, place, bytes written) and the output whole.
+#[derive(Clone, Debug, PartialEq)]
+pub struct Written {
+    pub answer: [u64; 3],
+    pub out: Vec<u8>,
+    /// Nothing beside the output was written, and nothing that was lent to be read.
+    pub kept: bool,
+}
+
+/// A call of the decimal formatter. `scratch` is as the caller left it.
+#[derive(Clone, Debug)]
+pub struct Decimal {
+    pub n: u32,
+    pub scratch: Vec<u8>,
+}
+
+/// What the formatter leaves: how many digits, and the scratch whole.
+#[derive(Clone, Debug, PartialEq)]
+pub struct Spelled {
+    pub digits: usize,
+    pub scratch: Vec<u8>,
+    /// Nothing beside the scratch was written.
+    pub kept: bool,
+}

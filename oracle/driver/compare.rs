@@ -1,9 +1,9 @@
 //! Asks all sides the same call and counts where they differ.
 
-use crate::call::{Draw, Drawn, Mesh, Meshed};
+use crate::call::{Decimal, Draw, Drawn, Mesh, Meshed, Obj, Spelled, Written};
 use crate::crash::named;
 use crate::rust_side;
-use crate::sides::{product, READING};
+use crate::sides::{product, Side, READING};
 use std::collections::BTreeMap;
 use std::fmt::Debug;
 
@@ -17,8 +17,10 @@ pub struct Tally {
     pub by_refusal: BTreeMap<(&'static str, u64), u64>,
     /// Faces that an accepted mesher's call had, by sign and permutation.
     pub by_face: BTreeMap<(i32, i32), u64>,
-    /// Quads that accepted calls listed.
+    /// Quads that accepted calls of the meshers listed.
     pub quads: u64,
+    /// Quads that accepted calls of the OBJ writer wrote, and bytes.
+    pub texts: (u64, u64),
 }
 
 /// So many differences are shown, each line with at most so many characters; all are counted.
@@ -44,10 +46,17 @@ impl Tally {
         }
     }
 
-    /// Counts a difference from document 01's own example, unless it is as it says.
+    /// Counts a difference from an example of the documents, unless it is as they say.
     pub fn expect(&mut self, name: &str, holds: bool) {
         if !holds {
-            self.differs("document 01's example", &name, &"its result", &"another");
+            self.differs("an example of the documents", &name, &"its result", &"another");
+        }
+    }
+
+    /// Counts a difference from what is promised of every call, unless it holds of this one.
+    pub fn promised(&mut self, promise: &str, call: &dyn Debug, left: &dyn Debug, holds: bool) {
+        if !holds {
+            self.differs(promise, call, left, &"what is promised");
         }
     }
 
@@ -108,6 +117,51 @@ impl Tally {
         reading
     }
 
+    /// A call of the OBJ writer: the product against the reading, byte for byte; and both against the text that has the Rust's
+    /// corners and indices, where the call is accepted or is refused for want of room alone. Answers what the reading leaves.
+    pub fn obj(&mut self, call: &Obj) -> Written {
+        let (reading, product) = self.obj_by(call, &|side| side.obj(call));
+        if reading.answer[0] == 0 || reading.answer[0] == 15 {
+            self.with_rust += 1;
+            let rust = named(self.calls, "the Rust's text", call, || rust_side::obj(call));
+            for (side, left) in [("the second reading", Some(&reading)), ("the product", product.as_ref())] {
+                if let Some(left) = left.filter(|left| !has_text(left, &rust)) {
+                    let what = format!("the text of the Rust's corners and indices, and {}", side);
+                    self.differs(&what, call, &rust, left);
+                }
+            }
+        }
+        if reading.answer[0] == 0 {
+            self.texts.0 += call.counts.iter().sum::<u64>();
+            self.texts.1 += reading.answer[2];
+        }
+        reading
+    }
+
+    /// The product against the reading alone, each asked by `ask`. Answers what both leave.
+    pub fn obj_by(&mut self, call: &dyn Debug, ask: &dyn Fn(&Side) -> Written) -> (Written, Option<Written>) {
+        self.calls += 1;
+        let reading = named(self.calls, "the second reading", call, || ask(&READING));
+        *self.by_refusal.entry(("write_obj", reading.answer[0])).or_default() += 1;
+        let product = product().map(|p| named(self.calls, "the product", call, || ask(p)));
+        if let Some(left) = product.as_ref().filter(|left| **left != reading) {
+            self.differs("the product and the second reading", call, left, &reading);
+        }
+        (reading, product)
+    }
+
+    /// A call of the decimal formatter: the product against the reading. Answers what the reading leaves.
+    pub fn decimal(&mut self, call: &Decimal) -> Spelled {
+        self.calls += 1;
+        let reading = named(self.calls, "the second reading", call, || READING.decimal(call));
+        *self.by_refusal.entry(("decimal", if reading.digits == 0 { 15 } else { 0 })).or_default() += 1;
+        let product = product().map(|p| named(self.calls, "the product", call, || p.decimal(call)));
+        if let Some(left) = product.filter(|left| *left != reading) {
+            self.differs("the product and the second reading", call, &left, &reading);
+        }
+        reading
+    }
+
     /// What was run, by kind and refusal.
     pub fn print(&self) {
         let mut kinds: Vec<&str> = self.by_refusal.keys().map(|k| k.0).collect();
@@ -125,6 +179,7 @@ impl Tally {
         let faces: Vec<String> = self.by_face.iter().map(|((s, p), n)| format!("{:+}/{}: {}", s, p, n)).collect();
         println!("  faces of accepted meshes, by sign and permutation: {}", faces.join(", "));
         println!("  quads listed by accepted meshes: {}", self.quads);
+        println!("  quads written by accepted OBJ texts: {}, bytes: {}", self.texts.0, self.texts.1);
     }
 }
 
@@ -164,6 +219,15 @@ pub fn by_rust(call: &Mesh) -> ByRust {
         answer[1] = capacity as u64;
     }
     ByRust { answer, tests, written }
+}
+
+/// Whether a writer left that text: all of it where it is accepted; else it is longer than the output.
+fn has_text(left: &Written, text: &str) -> bool {
+    if left.answer[0] == 0 {
+        left.answer[2] == text.len() as u64 && left.out.starts_with(text.as_bytes())
+    } else {
+        text.len() > left.out.len()
+    }
 }
 
 fn kind(call: &Draw) -> &'static str {

@@ -6,7 +6,7 @@ use crate::random::Random;
 
 const SIGNS: [i32; 8] = [1, -1, 0, 2, -2, 7, i32::MAX, i32::MIN];
 const PERMUTATIONS: [u32; 8] = [0, 1, 2, 3, 4, 5, 6, u32::MAX];
-const SIDES: [u32; 6] = [0, 1, 254, 255, 256, u32::MAX];
+pub const SIDES: [u32; 6] = [0, 1, 254, 255, 256, u32::MAX];
 const STARTS: [u32; 8] = [0, 1, 4, 65_535, 1 << 31, 4_294_967_291, 4_294_967_292, 4_294_967_293];
 
 /// Sizes with something to them: zeros, ones, halves, what is not exact, the smallest and largest, infinities, NaNs.

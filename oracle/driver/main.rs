@@ -1,4 +1,4 @@
-//! Compares the product, the Rust's text and the second reading of document 01. `oracle/run` builds and starts it.
+//! Compares the product, the Rust's text and the second reading of the documents. `oracle/run` builds and starts it.
 
 mod call;
 mod chosen;
@@ -8,7 +8,10 @@ mod draws;
 mod examples;
 mod exhaustive;
 mod large;
+mod lists;
+mod many;
 mod meshes;
+mod obj;
 mod random;
 mod replay;
 mod rust_side;
@@ -22,12 +25,13 @@ struct Wish {
     calls: u64,
     deep: bool,
     brief: bool,
+    many: bool,
     replay: bool,
     rattle: bool,
 }
 
 fn wish() -> Result<Wish, String> {
-    let mut wish = Wish { seed: 1, calls: 100_000, deep: false, brief: false, replay: false, rattle: false };
+    let mut wish = Wish { seed: 1, calls: 100_000, deep: false, brief: false, many: false, replay: false, rattle: false };
     let mut words = std::env::args().skip(1);
     while let Some(word) = words.next() {
         let mut number = || words.next().and_then(|n| n.parse().ok()).ok_or(format!("{} needs a number", word));
@@ -36,6 +40,7 @@ fn wish() -> Result<Wish, String> {
             "--calls" => wish.calls = number()?,
             "--deep" => wish.deep = true,
             "--brief" => wish.brief = true,
+            "--many" => wish.many = true,
             "--replay" => wish.replay = true,
             "--rattle" => wish.rattle = true,
             _ => return Err(format!("{} is no word of this program", word)),
@@ -101,6 +106,35 @@ fn main() {
             t.draw(&draws::call(&mut random));
         }
     });
+    part(&mut tally, "OBJ: the worked examples", &mut |t| obj::examples(t));
+    part(&mut tally, "OBJ: every face and limit", &mut |t| obj::every_face(t));
+    part(&mut tally, "OBJ: every length of the output", &mut |t| obj::every_length(t));
+    part(&mut tally, "OBJ: refusals, every few at once", &mut |t| obj::every_refusal(t));
+    part(&mut tally, "OBJ: decimal numbers", &mut |t| {
+        let mut random = Random::new(wish.seed);
+        obj::decimals(t);
+        for _ in 0..wish.calls {
+            t.decimal(&obj::decimal(&mut random));
+        }
+    });
+    part(&mut tally, "OBJ: random lists", &mut |t| {
+        let mut random = Random::new(wish.seed);
+        for _ in 0..wish.calls {
+            t.obj(&lists::call(&mut random));
+        }
+    });
+    part(&mut tally, "OBJ: random greedy meshes, handed on", &mut |t| {
+        let mut random = Random::new(!wish.seed);
+        for _ in 0..wish.calls / 5 {
+            lists::mesh_and_text(t, &mut random);
+        }
+    });
+    if !wish.brief {
+        part(&mut tally, "OBJ: a long list", &mut |t| lists::long(t, wish.seed));
+    }
+    if wish.many {
+        part(&mut tally, "OBJ: lists of 2^30 quads", &mut |t| many::many(t));
+    }
     tally.print();
     println!("oracle ({}): {} calls, {} differences", sides, tally.calls, tally.differences);
     std::process::exit(if tally.differences == 0 { 0 } else { 1 });

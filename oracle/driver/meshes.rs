@@ -79,7 +79,7 @@ fn limits(random: &mut Random, shape: [u32; 3]) -> ([u32; 3], [u32; 3]) {
     (min, max)
 }
 
-fn faces(random: &mut Random) -> [i32; 12] {
+pub fn faces(random: &mut Random) -> [i32; 12] {
     let mut faces = CANONICAL;
     let kind = random.below(100);
     let same = (random.pick(&[1, -1]), random.below(6) as i32);

@@ -1,6 +1,6 @@
 //! The oracle: the crate's own text, over the stand-ins. It has no refusals, so it is asked only what is accepted.
 
-use crate::call::{Draw, Mesh};
+use crate::call::{Draw, Mesh, Obj};
 use block_mesh::ilattice::glam::IVec3;
 use block_mesh::ndshape::RuntimeShape3;
 use block_mesh::{
@@ -8,6 +8,7 @@ use block_mesh::{
     UnitQuadBuffer, UnorientedQuad, Voxel, VoxelVisibility,
 };
 use std::cell::RefCell;
+use std::fmt::Write;
 
 /// Document 01's voxel: class and merge value of a 16-bit number. No voxel of class 3 lies in an accepted box.
 #[derive(Clone, Copy)]
@@ -69,6 +70,22 @@ pub fn mesh(call: &Mesh) -> [Vec<u32>; 6] {
         visible_block_faces(&cells, &shape, call.min, call.max, &faces, &mut buffer);
         buffer.groups.map(|g| g.iter().flat_map(|q| q.minimum).collect())
     }
+}
+
+/// The OBJ text of an accepted list. The crate writes none: its corners and its indices are put into document 02's lines.
+pub fn obj(call: &Obj) -> String {
+    let mut text = String::from("o mesh\n");
+    let groups = faces(&call.faces).into_iter().zip(call.counts).flat_map(|(f, count)| (0..count).map(move |_| f));
+    for (number, (face, q)) in groups.zip(call.quads.chunks(5)).enumerate() {
+        let quad = UnorientedQuad { minimum: [q[0], q[1], q[2]], width: q[3], height: q[4] };
+        for c in face.quad_corners(&quad).map(|c| c.to_array()) {
+            writeln!(text, "v {} {} {}", c[0], c[1], c[2]).expect("a line");
+        }
+        for i in face.quad_mesh_indices(4 * number as u32).chunks(3) {
+            writeln!(text, "f {} {} {}", i[0] + 1, i[1] + 1, i[2] + 1).expect("a line");
+        }
+    }
+    text
 }
 
 fn words(parts: &[f32]) -> Vec<u32> {

@@ -1,6 +1,6 @@
-//! The two sides that are called through C: the product, and the second reading of document 01 (which is not the oracle).
+//! The two sides that are called through C: the product, and the second reading of the documents (which is not the oracle).
 
-use crate::call::{Draw, Drawn, Mesh, Meshed, BEFORE};
+use crate::call::{Decimal, Draw, Drawn, Mesh, Meshed, Obj, Spelled, Written, BEFORE};
 
 type GreedyQuads = unsafe extern "C" fn(
     *const u32, *const u32, *const u32, *const i32, *const u16, usize, *mut u8, usize, *mut u32, usize, *mut u64,
@@ -12,6 +12,8 @@ type Corners = unsafe extern "C" fn(i32, u32, *const u32, *mut u32) -> u32;
 type Normal = unsafe extern "C" fn(i32, u32, *mut u32) -> u32;
 type Indices = unsafe extern "C" fn(i32, u32, u32, *mut u32) -> u32;
 type TexCoords = unsafe extern "C" fn(i32, u32, u32, bool, *const u32, *mut u32) -> u32;
+type WriteObj = unsafe extern "C" fn(*const i32, *const u64, *const u32, usize, *mut u8, usize, *mut u64);
+type SpellDecimal = unsafe extern "C" fn(u32, *mut u8, usize) -> usize;
 
 /// The calls of one side. Outputs of f32 numbers are handed over as words, so that their bits are seen.
 pub struct Side {
@@ -22,10 +24,15 @@ pub struct Side {
     normal: Normal,
     indices: Indices,
     tex_coords: TexCoords,
+    write_obj: WriteObj,
+    decimal: SpellDecimal,
 }
 
 macro_rules! side {
-    ($side:ident, $greedy:ident, $unit:ident, $corner:ident, $corners:ident, $normal:ident, $indices:ident, $tex:ident) => {
+    (
+        $side:ident, $greedy:ident, $unit:ident, $corner:ident, $corners:ident, $normal:ident, $indices:ident, $tex:ident,
+        $obj:ident, $decimal:ident
+    ) => {
         extern "C" {
             fn $greedy(
                 shape: *const u32, min: *const u32, max: *const u32, faces: *const i32, voxels: *const u16, voxels_len: usize,
@@ -40,6 +47,11 @@ macro_rules! side {
             fn $normal(sign: i32, permutation: u32, out: *mut u32) -> u32;
             fn $indices(sign: i32, permutation: u32, start: u32, out: *mut u32) -> u32;
             fn $tex(sign: i32, permutation: u32, axis: u32, flip_v: bool, quad: *const u32, out: *mut u32) -> u32;
+            fn $obj(
+                faces: *const i32, counts: *const u64, quads: *const u32, quads_len: usize, out: *mut u8, out_len: usize,
+                answer: *mut u64,
+            );
+            fn $decimal(n: u32, scratch: *mut u8, scratch_len: usize) -> usize;
         }
         pub static $side: Side = Side {
             greedy_quads: $greedy,
@@ -49,19 +61,21 @@ macro_rules! side {
             normal: $normal,
             indices: $indices,
             tex_coords: $tex,
+            write_obj: $obj,
+            decimal: $decimal,
         };
     };
 }
 
 side!(
     READING, reading_greedy_quads, reading_visible_block_faces, reading_corner, reading_corners,
-    reading_normal, reading_indices, reading_tex_coords
+    reading_normal, reading_indices, reading_tex_coords, reading_write_obj, reading_decimal
 );
 
 #[cfg(product)]
 side!(
     PRODUCT, spunmarrow_greedy_quads, spunmarrow_visible_block_faces, spunmarrow_corner, spunmarrow_corners,
-    spunmarrow_normal, spunmarrow_indices, spunmarrow_tex_coords
+    spunmarrow_normal, spunmarrow_indices, spunmarrow_tex_coords, spunmarrow_write_obj, spunmarrow_decimal
 );
 
 /// The product, where its archive is linked.
@@ -164,5 +178,33 @@ impl Side {
             }
         };
         Drawn { refusal, words }
+    }
+
+    /// Runs the OBJ writer. The guards of the list are bad quads, so that a writer that reads them is likely to answer otherwise.
+    pub fn obj(&self, call: &Obj) -> Written {
+        let mut quads = Lent::new(&call.quads, u32::MAX);
+        let mut written = self.obj_of(call.faces, call.counts, quads.part(), quads.len(), &call.out);
+        written.kept &= quads.kept() && quads.all[GUARD..GUARD + call.quads.len()] == call.quads[..];
+        written
+    }
+
+    /// Runs the OBJ writer on a list that lies anywhere: `len` numbers from `quads` on.
+    pub fn obj_of(&self, faces: [i32; 12], counts: [u64; 6], quads: *const u32, len: usize, out: &[u8]) -> Written {
+        let mut out = Lent::new(out, 0x5A);
+        let mut answer = Lent::new(&[u64::MAX; 3], 0x5A5A);
+        let (lent_faces, lent_counts) = (faces, counts);
+        let out_len = out.len();
+        unsafe { (self.write_obj)(lent_faces.as_ptr(), lent_counts.as_ptr(), quads, len, out.part(), out_len, answer.part()) }
+        let kept = out.kept() && answer.kept() && lent_faces == faces && lent_counts == counts;
+        let mut numbers = [0; 3];
+        numbers.copy_from_slice(&answer.after());
+        Written { answer: numbers, out: out.after(), kept }
+    }
+
+    /// Runs the decimal formatter.
+    pub fn decimal(&self, call: &Decimal) -> Spelled {
+        let mut scratch = Lent::new(&call.scratch, 0x5A);
+        let digits = unsafe { (self.decimal)(call.n, scratch.part(), call.scratch.len()) };
+        Spelled { digits, scratch: scratch.after(), kept: scratch.kept() }
     }
 }

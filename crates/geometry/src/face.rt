@@ -299,10 +299,14 @@ impl OrientedBlockFace {
         requires { ⌜ WithinBounds self quad ⌝ }
         ensures { λ r. ⌜ r ≡ corners self quad ⌝ }
     {
-        let minu_minv = self.corner(quad, Corner::MinuMinv);
-        let maxu_minv = self.corner(quad, Corner::MaxuMinv);
-        let minu_maxv = self.corner(quad, Corner::MinuMaxv);
-        let maxu_maxv = self.corner(quad, Corner::MaxuMaxv);
+        let permutation = self.permutation;
+        let axes = permutation.axes();
+        let u = axes.u;
+        let v = axes.v;
+        let minu_minv = self.base(quad);
+        let maxu_minv = step(minu_minv, u, quad.width);
+        let minu_maxv = step(minu_minv, v, quad.height);
+        let maxu_maxv = step(maxu_minv, v, quad.height);
         QuadCorners {
             minu_minv: minu_minv,
             maxu_minv: maxu_minv,

@@ -20,7 +20,7 @@ set-after [] r x rest = refl
 set-after (d ∷ done) r x rest = ap (λ (l : List ℕ). d ∷ l) (set-after done r x rest)
 
 -- A list set from there on overwrites what follows.
-set-all-after : (xs done rest : List ℕ) → length xs ≤ length rest → setAll (done ++ rest) (length done) xs ≡ done ++ overwritten xs rest
+pub set-all-after : (xs done rest : List ℕ) → length xs ≤ length rest → setAll (done ++ rest) (length done) xs ≡ done ++ overwritten xs rest
 unfolding overwritten setAll
 set-all-after [] done rest h = refl
 set-all-after (x ∷ xs) done [] h = absurd (not-suc-le-zero h)
@@ -53,6 +53,14 @@ set-next (x ∷ xs) out at zero h = rw add-zero
 set-next (x ∷ xs) out at (suc k) h =
     let next : at + suc k ≡ at + 1 + k = omega arith in
     rw (suc-add k 1, next) (set-next xs (set out at x) (at + 1) k (omega arith))
+
+-- Numbers set in two lots.
+pub set-all-append : (out : List ℕ) (at : ℕ) (a b : List ℕ) → setAll (setAll out at a) (at + length a) b ≡ setAll out at (a ++ b)
+unfolding setAll
+set-all-append out at [] b = rw add-zero
+set-all-append out at (x ∷ a) b =
+    let next : at + length (x ∷ a) ≡ at + 1 + length a = omega arith in
+    rw next (set-all-append (set out at x) (at + 1) a b)
 
 -- Setting numbers keeps how many there are.
 pub set-all-length : (xs out : List ℕ) (at : ℕ) → length (setAll out at xs) ≡ length out

@@ -27,9 +27,12 @@ pub fn many_voxels(size: u64) {
     limits();
 }
 
-// A refused block, in words. The numbers are document 01's; those that this command cannot get are
-// left out.
-pub fn refused(number: u32, place: u64) {
+// Whether a call was refused, which is said in words. The numbers are document 01's and 02's; those
+// that this command cannot get are left out.
+pub fn refused(number: u32, place: u64) -> bool {
+    if number == 0 {
+        return false;
+    }
     if number == listing::MANY_QUADS {
         sentence(
             b"mesh: refused by 9 at ",
@@ -37,11 +40,17 @@ pub fn refused(number: u32, place: u64) {
             b": the block has more quads than that: ",
         );
         limits();
-        return;
+        return true;
     }
     sentence(b"mesh: refused by ", number as u64, b" at ");
     sentence(b"", place, b": ");
     meaning(number);
+    true
+}
+
+fn long_text() {
+    text(b"the OBJ text is longer than the 3000000 bytes that mesh holds; ");
+    text(b"host/obj_file.c writes blocks of any size\n");
 }
 
 fn meaning(number: u32) {
@@ -51,6 +60,7 @@ fn meaning(number: u32) {
         4 => text(b"the box ends past the block on that axis (0, 1, 2 are x, y, z)\n"),
         5 => text(b"the box is one voxel thick on that axis (0, 1, 2 are x, y, z)\n"),
         8 => text(b"the voxel of that index is of class 3, which is bad\n"),
+        15 => long_text(),
         _ => text(b"the block is refused\n"),
     }
 }

@@ -1,4 +1,5 @@
-// What is printed of a meshed block. A line is put together first and written at once.
+// What is printed of a meshed block. A line, or a whole text, is put together first and written at
+// once.
 ghost use Prim.Native.Nat.{_≤_};
 use libc::STDOUT_FILENO;
 
@@ -61,11 +62,12 @@ fn number_at(out: &[u32], i: usize) -> u64 {
     if i < out.len() { wide(out[i]) } else { 0 }
 }
 
-// Writes the first bytes of a line.
-fn write_part(line: &[u8], used: usize) {
+// Writes the first bytes of a line or a text, and answers whether all of them could be written.
+pub fn write_part(line: &[u8], used: usize) -> bool {
     if used <= line.len() {
-        io::write_all(STDOUT_FILENO, &line[..used]);
+        return io::write_all(STDOUT_FILENO, &line[..used]);
     }
+    false
 }
 
 fn write_line(line: &[u8; 160], used: usize) {

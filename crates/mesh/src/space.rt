@@ -37,3 +37,10 @@ pub fn greedy_quads() -> [u32; 655360]
 {
     [0; 655360]
 }
+
+// For the text of a mesh.
+pub fn text() -> [u8; 3000000]
+    ensures { λ r. ⌜ 3000000 ≡ length r ⌝ }
+{
+    [0; 3000000]
+}

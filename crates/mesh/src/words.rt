@@ -8,6 +8,7 @@ pub struct Job {
     // Whether a word was wrong, which has been said.
     pub wrong: bool,
     pub unit: bool,
+    pub obj: bool,
     pub shape: UVec3,
     pub min: UVec3,
     pub max: UVec3,
@@ -16,6 +17,7 @@ pub struct Job {
 // What a word is.
 enum Word {
     Unit,
+    Obj,
     Box,
     Number(u32),
     Other,
@@ -25,6 +27,7 @@ enum Word {
 struct Words {
     wrong: bool,
     unit: bool,
+    obj: bool,
     // How many numbers of the shape there were.
     shape: usize,
     // Whether there was a box, and how many of its numbers there were.
@@ -73,6 +76,9 @@ fn kind(text: &[u8]) -> Word {
     if check::same(text, b"--unit") {
         return Word::Unit;
     }
+    if check::same(text, b"--obj") {
+        return Word::Obj;
+    }
     if check::same(text, b"--box") {
         return Word::Box;
     }
@@ -84,45 +90,30 @@ fn kind(text: &[u8]) -> Word {
 }
 
 // Says what is wrong with a word.
-fn wrong(w: Words, i: usize, text: &[u8], what: &[u8]) -> Words {
+fn wrong(mut w: Words, i: usize, text: &[u8], what: &[u8]) -> Words {
     say::sentence(b"mesh: word ", i as u64, b", '");
     say::text(text);
     say::text(what);
-    Words {
-        wrong: true,
-        unit: w.unit,
-        shape: w.shape,
-        boxed: w.boxed,
-        corners: w.corners,
-    }
+    w.wrong = true;
+    w
 }
 
 // Takes a number: of the box where one is open, and else of the shape.
-fn take_number(i: usize, w: Words, n: u32, text: &[u8], numbers: &mut [u32; 9]) -> Words {
+fn take_number(i: usize, mut w: Words, n: u32, text: &[u8], numbers: &mut [u32; 9]) -> Words {
     let corners = w.corners;
     let shape = w.shape;
     if w.boxed {
         if corners < 6 {
             let at = corners + 3;
             numbers[at] = n;
-            return Words {
-                wrong: w.wrong,
-                unit: w.unit,
-                shape: shape,
-                boxed: true,
-                corners: corners + 1,
-            };
+            w.corners = corners + 1;
+            return w;
         }
     }
     if shape < 3 {
         numbers[shape] = n;
-        return Words {
-            wrong: w.wrong,
-            unit: w.unit,
-            shape: shape + 1,
-            boxed: w.boxed,
-            corners: corners,
-        };
+        w.shape = shape + 1;
+        return w;
     }
     wrong(
         w,
@@ -133,41 +124,37 @@ fn take_number(i: usize, w: Words, n: u32, text: &[u8], numbers: &mut [u32; 9]) 
 }
 
 // Takes --box. A second one is wrong.
-fn take_box(i: usize, w: Words, text: &[u8]) -> Words {
+fn take_box(i: usize, mut w: Words, text: &[u8]) -> Words {
     if w.boxed {
         return wrong(w, i, text, b"', stands there a second time\n");
     }
-    Words {
-        wrong: w.wrong,
-        unit: w.unit,
-        shape: w.shape,
-        boxed: true,
-        corners: 0,
-    }
+    w.boxed = true;
+    w
 }
 
 // Takes the i-th word.
-fn take(i: usize, w: Words, numbers: &mut [u32; 9]) -> Words {
+fn take(i: usize, mut w: Words, numbers: &mut [u32; 9]) -> Words {
     let mut text = [0u8; 64];
     let n = os::arg(i, &mut text);
     if os::errno() != 0 {
         return wrong(w, i, b"..", b"', is too long for any word of mesh\n");
     }
     match kind(&text[..n]) {
-        Word::Unit => Words {
-            wrong: w.wrong,
-            unit: true,
-            shape: w.shape,
-            boxed: w.boxed,
-            corners: w.corners,
-        },
+        Word::Unit => {
+            w.unit = true;
+            w
+        }
+        Word::Obj => {
+            w.obj = true;
+            w
+        }
         Word::Box => take_box(i, w, &text[..n]),
         Word::Number(value) => take_number(i, w, value, &text[..n], numbers),
         Word::Other => wrong(
             w,
             i,
             &text[..n],
-            b"', is neither --unit, --box nor a number from 0 to 4294967295\n",
+            b"', is neither --unit, --obj, --box nor a number from 0 to 4294967295\n",
         ),
     }
 }
@@ -178,6 +165,7 @@ fn take_all(numbers: &mut [u32; 9]) -> Words {
     let mut w = Words {
         wrong: false,
         unit: false,
+        obj: false,
         shape: 0,
         boxed: false,
         corners: 0,
@@ -216,6 +204,20 @@ fn too_few(w: Words) -> bool {
     false
 }
 
+// Whether the words are wrong, by themselves or together, which is said.
+fn unfit(w: Words) -> bool {
+    if w.wrong {
+        return true;
+    }
+    if w.unit {
+        if w.obj {
+            say::text(b"mesh: --obj writes greedy quads, and does not go with --unit\n");
+            return true;
+        }
+    }
+    too_few(w)
+}
+
 // The last voxel of an axis.
 fn last(axis: u32) -> u32 {
     if axis == 0 { 0 } else { axis - 1 }
@@ -225,11 +227,24 @@ fn last(axis: u32) -> u32 {
 pub fn read() -> Job {
     let mut numbers = [0u32; 9];
     let w = take_all(&mut numbers);
-    let wrong = if w.wrong { true } else { too_few(w) };
     let shape = UVec3 {
         x: numbers[0],
         y: numbers[1],
         z: numbers[2],
+    };
+    let min = UVec3 { x: 0, y: 0, z: 0 };
+    let max = UVec3 {
+        x: last(numbers[0]),
+        y: last(numbers[1]),
+        z: last(numbers[2]),
+    };
+    let mut job = Job {
+        wrong: unfit(w),
+        unit: w.unit,
+        obj: w.obj,
+        shape: shape,
+        min: min,
+        max: max,
     };
     if w.boxed {
         let min = UVec3 {
@@ -242,25 +257,8 @@ pub fn read() -> Job {
             y: numbers[7],
             z: numbers[8],
         };
-        return Job {
-            wrong: wrong,
-            unit: w.unit,
-            shape: shape,
-            min: min,
-            max: max,
-        };
+        job.min = min;
+        job.max = max;
     }
-    let min = UVec3 { x: 0, y: 0, z: 0 };
-    let max = UVec3 {
-        x: last(numbers[0]),
-        y: last(numbers[1]),
-        z: last(numbers[2]),
-    };
-    Job {
-        wrong: wrong,
-        unit: w.unit,
-        shape: shape,
-        min: min,
-        max: max,
-    }
+    job
 }

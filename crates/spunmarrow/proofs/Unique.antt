@@ -4,7 +4,9 @@ use mathlib.Core.List.{List}
 use mathlib.Core.Path.{_≡_, refl, sym, _∙_, ap}
 use Prim.Native.Nat.{ℕ}
 use Rattle.spunmarrow.specs.Draw.{Told}
+use Rattle.digits.specs.Decimal.{Spelt}
 use Rattle.spunmarrow.specs.Mesh.{UnitLeft, GreedyLeft}
+use Rattle.spunmarrow.specs.Write.{WriteLeft}
 use Rattle.spunmarrow.proofs.draw.spunmarrow_corner.Reads as spunmarrow-corner
 use Rattle.spunmarrow.proofs.draw.spunmarrow_corners.Reads as spunmarrow-corners
 use Rattle.spunmarrow.proofs.draw.spunmarrow_normal.Reads as spunmarrow-normal
@@ -12,6 +14,8 @@ use Rattle.spunmarrow.proofs.draw.spunmarrow_indices.Reads as spunmarro
 use Rattle.spunmarrow.proofs.draw.spunmarrow_tex_coords.Reads as spunmarrow-tex-coords
 use Rattle.spunmarrow.proofs.mesh.spunmarrow_visible_block_faces.Reads as spunmarrow-visible-block-faces
 use Rattle.spunmarrow.proofs.mesh.spunmarrow_greedy_quads.Reads as spunmarrow-greedy-quads
+use Rattle.spunmarrow.proofs.write.spunmarrow_write_obj.Reads as spunmarrow-write-obj
+use Rattle.spunmarrow.proofs.write.spunmarrow_decimal.Reads as spunmarrow-decimal
 
 -- A contract, as a relation of lifetimes, arguments, the result and what is lent at exit, leaves one result, and one of what is read at exit.
 abbrev pub OneLeft {ℓ α ρ σ π ο} :
@@ -50,3 +54,15 @@ pub spunmarrow-greedy-quads-unique : OneLeft spunmarrow-greedy-quads.Post {O = L
 spunmarrow-greedy-quads-unique κs a r r′ s s′ p q =
     let e = p ∙ sym q in
     (refl, ap (λ (o : GreedyLeft). (o .answer, o .visited, o .out)) e)
+
+-- A writer's call leaves its answer and its output,
+pub spunmarrow-write-obj-unique : OneLeft spunmarrow-write-obj.Post {O = List ℕ × List ℕ} (λ κs s. (s .1 .1 .1 .1 .0 .now, s .1 .1 .1 .0 .now))
+spunmarrow-write-obj-unique κs a r r′ s s′ p q =
+    let e = p ∙ sym q in
+    (refl, ap (λ (o : WriteLeft). (o .answer, o .out)) e)
+
+-- and the formatter's, beside its result, the scratch.
+pub spunmarrow-decimal-unique : OneLeft spunmarrow-decimal.Post (λ κs s. s .1 .0 .now)
+spunmarrow-decimal-unique κs a r r′ s s′ p q =
+    let e = p ∙ sym q in
+    (ap (λ (o : Spelt). o .written) e, ap (λ (o : Spelt). o .scratch) e)

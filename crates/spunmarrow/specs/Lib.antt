@@ -6,3 +6,5 @@ pub mod Draw
 pub mod Faces
 -- The meshers' calls.
 pub mod Mesh
+-- The writers' calls.
+pub mod Write

@@ -8,3 +8,4 @@
 pub mod draw;
 pub mod mesh;
 mod numbers;
+pub mod write;

@@ -1,9 +1,10 @@
-// What the numbers of a call stand for: permutations, corners, axes, points, quads and faces.
+// What the numbers of a call stand for: permutations, corners, axes, points, quads, faces and counts.
 ghost use mathlib.Core.Path.{_≡_};
 ghost use Prim.Native.Nat.{_<_};
 ghost use Rattle.geometry.specs.Refusal.{answer, checked};
 ghost use Rattle.geometry.specs.Answers.{checkMeaning, permutationMeaning, faceMeaning};
 ghost use Rattle.spunmarrow.specs.Numbers.{pointOf, quadOf, faceOf, cornerOf, axisOf, cornerMeaning, axisMeaning};
+ghost use Rattle.spunmarrow.specs.Write.{countsOf};
 ghost use Rattle.spunmarrow.specs.Faces.{signedPermutation, faceAt, badNumbers, facesOf};
 use geometry::axis::Axis;
 use geometry::axis::AxisPermutation;
@@ -152,5 +153,18 @@ pub(crate) fn faces(numbers: &[i32; 12]) -> [OrientedBlockFace; 6]
     let d = face_at(numbers, 3);
     let e = face_at(numbers, 4);
     let f = face_at(numbers, 5);
+    [a, b, c, d, e, f]
+}
+
+// The six counts.
+pub(crate) fn counts(numbers: &[u64; 6]) -> [u64; 6]
+    ensures { λ r. ⌜ r ≡ countsOf (now (numbers .entry)) ⌝ }
+{
+    let a = numbers[0];
+    let b = numbers[1];
+    let c = numbers[2];
+    let d = numbers[3];
+    let e = numbers[4];
+    let f = numbers[5];
     [a, b, c, d, e, f]
 }
