@@ -1,4 +1,4 @@
-/* What both targets share: bytes to draw from, and how a finding is told. A target is fire.c (the C interface) or host.c (the programs of host/). */
+/* What both targets share: bytes to draw from, and how a finding is told. A target is fire.c (the C interface) or host.c (host/mesh_file.c). */
 #ifndef FIRE_COMMON_H
 #define FIRE_COMMON_H
 

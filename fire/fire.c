@@ -19,9 +19,9 @@ const char *const target_name = "the C interface";
 
 /* ---- rooms */
 
-enum kind { SHAPE, MIN, MAX, FACES, VOXELS, VISITED, OUT, ANSWER, QUAD, DRAWN, COUNTS, LIST, TEXT, SCRATCH, SAVED, READ_FACES, KINDS };
-static const int read_only[KINDS] = {1, 1, 1, 1, 1, 0, 0, 0, 1, 0, 1, 1, 0, 0, 1, 0};
-static const int classes[KINDS] = {1, 1, 1, 1, 5, 4, 9, 1, 1, 1, 1, 5, 9, 1, 5, 1}; /* a room of 1, 2, 4, .. pages each */
+enum kind { SHAPE, MIN, MAX, FACES, VOXELS, VISITED, OUT, ANSWER, QUAD, DRAWN, COUNTS, LIST, TEXT, SCRATCH, KINDS };
+static const int read_only[KINDS] = {1, 1, 1, 1, 1, 0, 0, 0, 1, 0, 1, 1, 0, 0};
+static const int classes[KINDS] = {1, 1, 1, 1, 5, 4, 9, 1, 1, 1, 1, 5, 9, 1}; /* a room of 1, 2, 4, .. pages each */
 
 struct room {
     uint8_t *lent, *mine;
@@ -52,13 +52,11 @@ static struct room make_room(size_t size, int const_room)
 
 /* ---- figures */
 
-enum function { GREEDY, UNIT, CORNER, CORNERS, NORMAL, INDICES, TEX, WRITE, DECIMAL, SAVE, LOAD, FUNCTIONS };
+enum function { GREEDY, UNIT, CORNER, CORNERS, NORMAL, INDICES, TEX, WRITE, DECIMAL, FUNCTIONS };
 static const char *const names[FUNCTIONS] = {"spunmarrow_greedy_quads", "spunmarrow_visible_block_faces", "spunmarrow_corner", "spunmarrow_corners",
-                                             "spunmarrow_normal", "spunmarrow_indices", "spunmarrow_tex_coords", "spunmarrow_write_obj", "spunmarrow_decimal",
-                                             "spunmarrow_write_saved", "spunmarrow_read_saved"};
+                                             "spunmarrow_normal", "spunmarrow_indices", "spunmarrow_tex_coords", "spunmarrow_write_obj", "spunmarrow_decimal"};
 #define NUMBERS 25
-static uint64_t by_number[FUNCTIONS][NUMBERS], inputs, quads_listed, accepted_with_quads, quads_written[FUNCTIONS], bytes_written[FUNCTIONS], quads_read, read_with_quads;
-static uint64_t flush_end, flush_start, no_memory, long_lengths, overlapping;
+static uint64_t by_number[FUNCTIONS][NUMBERS], inputs, quads_listed, accepted_with_quads, quads_written, bytes_written, flush_end, flush_start, no_memory, long_lengths, overlapping;
 
 /* ---- the call under way */
 
@@ -67,7 +65,7 @@ static struct {
     uint32_t shape[3], min[3], max[3], quad[5];
     int32_t faces[12];
     uint64_t counts[6];
-    uint64_t lengths[3]; /* voxels, visited, out; of a writer the list, none, out; of the reader the file, none, out */
+    uint64_t lengths[3]; /* voxels, visited, out; of the writer the list, none, out */
     const void *at[3];
     int32_t sign;
     uint32_t permutation, number, flip; /* number: the corner, the start, the axis, or what is spelled */
@@ -88,11 +86,7 @@ void target_describe(int fd)
                 now.at[2], (unsigned long long)now.lengths[2]);
         return;
     }
-    if (now.function == LOAD) {
-        dprintf(fd, " bytes %p length %llu out %p length %llu\n", now.at[0], (unsigned long long)now.lengths[0], now.at[2], (unsigned long long)now.lengths[2]);
-        return;
-    }
-    if (now.function == WRITE || now.function == SAVE) {
+    if (now.function == WRITE) {
         dprintf(fd, " faces");
         for (i = 0; i < 12; i++)
             dprintf(fd, " %d", now.faces[i]);
@@ -113,7 +107,7 @@ void target_describe(int fd)
 
 void target_report(int fd)
 {
-    static const int shown[] = {1, 2, 3, 4, 5, 6, 7, 8, 9, 12, 13, 14, 15, 16, 17, 24};
+    static const int shown[] = {1, 2, 3, 4, 5, 6, 7, 8, 9, 12, 13, 14, 15, 17, 24};
     uint64_t all = 0, calls;
     int f;
     size_t i;
@@ -129,10 +123,8 @@ void target_report(int fd)
                 dprintf(fd, " by %d: %llu", shown[i], (unsigned long long)by_number[f][shown[i]]);
         dprintf(fd, "\n");
     }
-    dprintf(fd, "fire: of the accepted calls of the meshers %llu listed quads, %llu in all\n", (unsigned long long)accepted_with_quads, (unsigned long long)quads_listed);
-    dprintf(fd, "fire: the writers wrote %llu quads in %llu bytes of OBJ, and %llu in %llu bytes of saved meshes; of the accepted calls of the reader %llu had quads, %llu in all\n",
-            (unsigned long long)quads_written[WRITE], (unsigned long long)bytes_written[WRITE], (unsigned long long)quads_written[SAVE], (unsigned long long)bytes_written[SAVE],
-            (unsigned long long)read_with_quads, (unsigned long long)quads_read);
+    dprintf(fd, "fire: of the accepted calls of the meshers %llu listed quads, %llu in all; the writer wrote %llu quads in %llu bytes\n", (unsigned long long)accepted_with_quads,
+            (unsigned long long)quads_listed, (unsigned long long)quads_written, (unsigned long long)bytes_written);
     dprintf(fd, "fire: buffers flush against the page behind them %llu, against the page before them %llu, of length 0 and nowhere %llu; lengths past the memory lent %llu; read-only buffers that overlap %llu\n",
             (unsigned long long)flush_end, (unsigned long long)flush_start, (unsigned long long)no_memory, (unsigned long long)long_lengths, (unsigned long long)overlapping);
     dprintf(fd, "fire: %llu inputs, %llu calls of the C interface\n", (unsigned long long)inputs, (unsigned long long)all);
@@ -243,7 +235,6 @@ typedef uint32_t indices_type(uint64_t, uint64_t, uint64_t, void *);
 typedef uint32_t tex_type(uint64_t, uint64_t, uint64_t, bool, const void *, void *);
 typedef void write_type(const void *, const void *, const void *, size_t, void *, size_t, void *);
 typedef size_t decimal_type(uint64_t, void *, size_t);
-typedef void read_type(const void *, size_t, void *, void *, size_t, void *);
 
 #define DEFAULT_FLOATS 0x1F80u
 #define THROUGH(type, function) (fire_target = (void *)(function), entered(), (type *)(void *)fire_through)
@@ -782,12 +773,25 @@ static void draw_list(struct bytes *b, const uint64_t counts[6], uint32_t *list,
         }
 }
 
-/* What the header says of OBJ text, without the second reading. */
-static void text_holds(const uint8_t *out, uint64_t written, uint64_t quads)
+/* What the header says of every call, without the second reading. */
+static void writer_holds(const uint64_t answer[3], const uint8_t *out, const uint8_t *before, size_t real, size_t out_len, uint64_t quads)
 {
-    uint64_t lines = 0, i;
+    uint64_t refusal = answer[SPUNMARROW_ANSWER_REFUSAL], written = answer[SPUNMARROW_WRITE_ANSWER_WRITTEN], lines = 0, most = SPUNMARROW_OBJ_HEAD_BYTES + quads * SPUNMARROW_OBJ_MOST_QUAD_BYTES;
+    size_t i;
 
-    if (written > SPUNMARROW_OBJ_HEAD_BYTES + quads * SPUNMARROW_OBJ_MOST_QUAD_BYTES || written < SPUNMARROW_OBJ_HEAD_BYTES || memcmp(out, "o mesh\n", SPUNMARROW_OBJ_HEAD_BYTES) != 0)
+    if (refusal != 0 && refusal != 6 && refusal != 12 && refusal != 13 && refusal != 15 && refusal != 17 && refusal != 24)
+        finding("a refusal that is no number of the writer: %llu", (unsigned long long)refusal);
+    if (refusal != 0 && written != 0)
+        finding("bytes are said to be written on a refusal");
+    if (refusal == 15 && out_len >= most)
+        finding("an output that is always enough is refused");
+    if (refusal == 0 && answer[SPUNMARROW_ANSWER_PLACE] != 0)
+        finding("a place where the call is accepted");
+    if (written > out_len || written > real || memcmp(out + written, before + written, real - written) != 0)
+        finding("the output has changed past the text, or on a refusal");
+    if (refusal != 0)
+        return;
+    if (written > most || written < SPUNMARROW_OBJ_HEAD_BYTES || memcmp(out, "o mesh\n", SPUNMARROW_OBJ_HEAD_BYTES) != 0)
         finding("the text does not begin with its head, or is longer than it may be");
     for (i = SPUNMARROW_OBJ_HEAD_BYTES; i < written; i++) {
         if (memchr("0123456789 vf\n", out[i], 14) == NULL)
@@ -798,58 +802,8 @@ static void text_holds(const uint8_t *out, uint64_t written, uint64_t quads)
         finding("the text has %llu lines after its head, and should have %llu", (unsigned long long)lines, (unsigned long long)(6 * quads));
 }
 
-/* The same of a saved mesh; and the reader gives back what was handed in. */
-static void file_holds(const uint8_t *file, uint64_t written, uint64_t quads, const uint32_t *list)
+static void write_once(struct bytes *b)
 {
-    static const uint8_t six[4] = {6};
-    static uint32_t got[MOST_LIST];
-    uint64_t answer[8];
-    int32_t faces[12];
-    int k;
-
-    if (written != SPUNMARROW_SAVED_HEAD_BYTES + quads * SPUNMARROW_SAVED_QUAD_BYTES)
-        finding("the file has %llu bytes, and %llu quads", (unsigned long long)written, (unsigned long long)quads);
-    if (memcmp(file, six, sizeof six) != 0)
-        finding("section 0 does not count 6");
-    for (k = 0; k < 6; k++)
-        if (file[4 + k] != now.faces[2 * k + 1] + (now.faces[2 * k] == -1 ? 8 : 0))
-            finding("face byte %d is %u", k, file[4 + k]);
-    spunmarrow_read_saved(file, (size_t)written, faces, got, (size_t)quads * SPUNMARROW_SAVED_QUAD_NUMBERS, answer);
-    if (answer[SPUNMARROW_ANSWER_REFUSAL] != 0)
-        finding("what was written is not read: refused by %llu at %llu", (unsigned long long)answer[0], (unsigned long long)answer[1]);
-    if (memcmp(faces, now.faces, sizeof faces) != 0 || memcmp(answer + SPUNMARROW_ANSWER_COUNTS, now.counts, sizeof now.counts) != 0 ||
-        memcmp(got, list, (size_t)quads * SPUNMARROW_SAVED_QUAD_NUMBERS * sizeof *list) != 0)
-        finding("what was written is read as another mesh");
-}
-
-/* What the header says of every call of a writer, without the second reading. */
-static void writer_holds(const uint64_t answer[3], const uint8_t *out, const uint8_t *before, size_t real, size_t out_len, uint64_t quads, const uint32_t *list)
-{
-    uint64_t refusal = answer[SPUNMARROW_ANSWER_REFUSAL], written = answer[SPUNMARROW_WRITE_ANSWER_WRITTEN];
-
-    if (refusal != 0 && refusal != 6 && refusal != 12 && refusal != 13 && refusal != 15 && refusal != 17 && refusal != 24)
-        finding("a refusal that is no number of a writer: %llu", (unsigned long long)refusal);
-    if (refusal != 0 && written != 0)
-        finding("bytes are said to be written on a refusal");
-    if (refusal == 15 && out_len >= (now.function == WRITE ? SPUNMARROW_OBJ_HEAD_BYTES + quads * SPUNMARROW_OBJ_MOST_QUAD_BYTES : SPUNMARROW_SAVED_HEAD_BYTES + quads * SPUNMARROW_SAVED_QUAD_BYTES))
-        finding("an output that is always enough is refused");
-    if (refusal == 0 && answer[SPUNMARROW_ANSWER_PLACE] != 0)
-        finding("a place where the call is accepted");
-    if (written > out_len || written > real || memcmp(out + written, before + written, real - written) != 0)
-        finding("the output has changed past what was written, or on a refusal");
-    if (refusal != 0)
-        return;
-    if (now.function == WRITE)
-        text_holds(out, written, quads);
-    else
-        file_holds(out, written, quads, list);
-}
-
-static void write_once(struct bytes *b, enum function function)
-{
-    void (*const call)(const int32_t *, const uint64_t *, const uint32_t *, size_t, uint8_t *, size_t, uint64_t *) = function == WRITE ? spunmarrow_write_obj : spunmarrow_write_saved;
-    void (*const read_it)(const int32_t *, const uint64_t *, const uint32_t *, size_t, uint8_t *, size_t, uint64_t *) = function == WRITE ? reading_write_obj : reading_write_saved;
-    size_t head = function == WRITE ? SPUNMARROW_OBJ_HEAD_BYTES : SPUNMARROW_SAVED_HEAD_BYTES;
     static uint32_t list[MOST_LIST];
     static uint8_t before[MOST_TEXT], want_out[MOST_TEXT], scratch[MOST_TEXT];
     struct lease faces, counts, q, o, a;
@@ -861,7 +815,7 @@ static void write_once(struct bytes *b, enum function function)
     size_t exact;
     int i, in_answer;
 
-    now.function = function;
+    now.function = WRITE;
     upper = draw_word(b);
     draw_faces(b, now.faces);
     draw_counts(b, now.counts);
@@ -894,27 +848,27 @@ static void write_once(struct bytes *b, enum function function)
     if (overlap == 0 && lot.claimed != lot.real)
         lot.claimed = lot.real;
 
-    /* how long the output is: by what is written, or by chance */
-    read_it(now.faces, now.counts, list, lot.claimed, scratch, MOST_TEXT, want);
-    exact = want[0] == 0 ? (size_t)want[2] : head + draw_below(b, 200);
+    /* how long the output is: by the text, or by chance */
+    reading_write_obj(now.faces, now.counts, list, lot.claimed, scratch, MOST_TEXT, want);
+    exact = want[0] == 0 ? (size_t)want[2] : SPUNMARROW_OBJ_HEAD_BYTES + draw_below(b, 200);
     how = draw_below(b, 16);
     o_lot.real = how == 0 ? 0 : how < 3 ? exact - 1 : how == 3 ? draw_below(b, 65536) % exact : how < 6 ? exact + 1 + draw_below(b, 300) : exact;
     if (o_lot.real > MOST_TEXT)
         o_lot.real = MOST_TEXT;
     o_lot.claimed = o_lot.real;
     if (how == 7) {
-        const uint64_t far[] = {1ull << 31, 1ull << 32, (1ull << 32) + head - 1, (1ull << 32) + head, 1ull << 33, 1ull << 60};
+        static const uint64_t far[] = {1ull << 31, 1ull << 32, (1ull << 32) + 6, (1ull << 32) + 7, 1ull << 33, 1ull << 60};
 
         o_lot.claimed = far[draw_below(b, 6)];
         long_lengths++;
     }
 
-    /* the buffers; the counts may lie in a mesher's answer or in a reader's, which is a number shorter */
-    in_answer = chance(b, 64) ? function == WRITE || chance(b, 128) ? SPUNMARROW_ANSWER_NUMBERS : SPUNMARROW_READ_ANSWER_NUMBERS : 0;
+    /* the buffers; the counts may lie in a mesher's answer */
+    in_answer = chance(b, 64);
     for (i = 0; i < 9; i++)
         around[i] = i < 2 || i == 8 ? draw_word(b) : now.counts[i - 2];
     faces = lend_copy(b, FACES, now.faces, sizeof now.faces);
-    counts = in_answer ? lend_copy(b, COUNTS, around, (size_t)in_answer * sizeof around[0]) : lend_copy(b, COUNTS, now.counts, sizeof now.counts);
+    counts = in_answer ? lend_copy(b, COUNTS, around, sizeof around) : lend_copy(b, COUNTS, now.counts, sizeof now.counts);
     q = lend_copy(b, LIST, list, lot.real * sizeof list[0]);
     if (overlap == 2 && (uintptr_t)q.lent % sizeof now.counts[0] != 0)
         overlap = 3;
@@ -932,7 +886,7 @@ static void write_once(struct bytes *b, enum function function)
     now.at[0] = list_at, now.at[2] = out_at;
 
     _mm_setcsr(DEFAULT_FLOATS);
-    THROUGH(write_type, call)(hand(&faces), counts_at, list_at, lot.claimed, out_at, o_lot.claimed, hand(&a));
+    THROUGH(write_type, spunmarrow_write_obj)(hand(&faces), counts_at, list_at, lot.claimed, out_at, o_lot.claimed, hand(&a));
     kept_registers();
 
     /* what it left */
@@ -942,13 +896,13 @@ static void write_once(struct bytes *b, enum function function)
             finding("number %d of the answer is not written", i);
     for (quads = 0, i = 0; i < 6; i++)
         quads += now.counts[i];
-    writer_holds(answer, o.mine, before, o_lot.real, o_lot.claimed, quads, list);
-    read_it(now.faces, now.counts, list, lot.claimed, want_out, o_lot.claimed, want);
+    writer_holds(answer, o.mine, before, o_lot.real, o_lot.claimed, quads);
+    reading_write_obj(now.faces, now.counts, list, lot.claimed, want_out, o_lot.claimed, want);
     for (i = 0; i < 3; i++)
         if (answer[i] != want[i])
             finding("number %d of the answer is %llu, and by the second reading %llu", i, (unsigned long long)answer[i], (unsigned long long)want[i]);
     if (memcmp(o.mine, want_out, o.bytes) != 0)
-        finding("what is written is not the second reading's");
+        finding("the text is not the second reading's");
     if (memcmp(faces.mine, now.faces, faces.bytes) != 0 || memcmp(counts.mine, in_answer ? around : now.counts, counts.bytes) != 0 || memcmp(q.mine, list, q.bytes) != 0)
         finding("what was lent to be read has changed");
     take_back(&faces, "the faces");
@@ -956,10 +910,10 @@ static void write_once(struct bytes *b, enum function function)
     take_back(&q, "the list");
     take_back(&o, "the output");
     take_back(&a, "the answer");
-    by_number[function][answer[0]]++;
+    by_number[WRITE][answer[0]]++;
     if (answer[0] == 0) {
-        quads_written[function] += quads;
-        bytes_written[function] += answer[2];
+        quads_written += quads;
+        bytes_written += answer[2];
     }
 }
 
@@ -1017,211 +971,6 @@ static void spell_once(struct bytes *b)
     by_number[DECIMAL][length == 0 ? 15 : 0]++;
 }
 
-/* ---- reading */
-
-#define MOST_FILE (1u << 16)
-
-static uint8_t *lay_number(uint8_t *at, uint32_t number)
-{
-    int i;
-
-    for (i = 0; i < 4; i++)
-        *at++ = (uint8_t)(number >> 8 * i);
-    return at;
-}
-
-/* A saved mesh by the layout alone, of faces that may be bad. Answers its length; `begins` gets where each section's count stands. */
-static size_t lay_out(const uint32_t *list, uint8_t *file, size_t begins[7])
-{
-    uint8_t *at = lay_number(file, 6);
-    uint64_t k;
-    int i;
-
-    begins[0] = 0;
-    for (i = 0; i < 6; i++)
-        *at++ = (uint8_t)(now.faces[2 * i + 1] + (now.faces[2 * i] == -1 ? 8 : 0));
-    for (i = 0; i < 6; i++) {
-        begins[i + 1] = (size_t)(at - file);
-        at = lay_number(at, (uint32_t)now.counts[i]);
-        for (k = 0; k < now.counts[i] * 5; k++)
-            at = lay_number(at, *list++);
-    }
-    return (size_t)(at - file);
-}
-
-/* One damage: a count, a face byte, any byte, the end. */
-static size_t damage(struct bytes *b, uint8_t *file, size_t size, const size_t begins[7])
-{
-    static const uint32_t counts[] = {0, 1, 2, 5, 7, 0x40000000, 0x40000001, 0x0CCCCCCD, 0x80000000, 0xC0000002, 0xFFFFFFFF};
-    size_t section = draw_below(b, 7), i;
-
-    switch (draw_below(b, 12)) {
-    case 0: return draw_below(b, 65536) % (size + 1);
-    case 1: return size == 0 ? 0 : size - 1;
-    case 2: /* up to a section's count, or about its end */
-        i = begins[section] + draw_below(b, 6);
-        return i < size ? i : size;
-    case 3: /* bytes after the last */
-        for (i = 1 + draw_below(b, 24); i > 0; i--)
-            file[size++] = chance(b, 128) ? 0 : (uint8_t)draw_below(b, 256);
-        return size;
-    case 4: /* a count that is one off, or odd, or whose bytes are few modulo 2 to the 32nd */
-    case 5:
-        if (begins[section] + 4 <= size)
-            lay_number(file + begins[section], chance(b, 96) ? file[begins[section]] + draw_below(b, 3) - 1u : counts[draw_below(b, sizeof counts / sizeof counts[0])]);
-        return size;
-    case 6:
-    case 7:
-    case 8:
-        for (i = 1 + draw_below(b, 2); i > 0; i--)
-            if (size >= 10)
-                file[4 + draw_below(b, 6)] = chance(b, 128) ? (uint8_t)draw_below(b, 16) : (uint8_t)draw_below(b, 256);
-        return size;
-    default:
-        for (i = 1 + draw_below(b, 3); i > 0 && size != 0; i--)
-            file[draw_below(b, 65536) % size] ^= (uint8_t)(1u << draw_below(b, 8));
-        return size;
-    }
-}
-
-/* What the header says of every call of the reader, without the second reading; and the writer writes what was accepted again. */
-static void reader_holds(const uint64_t answer[8], const int32_t faces[12], const int32_t faces_before[12], const uint32_t *out, const uint32_t *out_before, size_t out_real, size_t out_len,
-                         const uint8_t *file, size_t size)
-{
-    static uint8_t again[MOST_FILE];
-    uint64_t refusal = answer[SPUNMARROW_ANSWER_REFUSAL], place = answer[SPUNMARROW_ANSWER_PLACE], quads = 0, written[3];
-    size_t i;
-    int k;
-
-    for (k = 0; k < SPUNMARROW_FACES; k++)
-        quads += answer[SPUNMARROW_ANSWER_COUNTS + k];
-    if (refusal != 0 && refusal != 9 && refusal != 12 && refusal != 16 && refusal != 17)
-        finding("a refusal that is no number of the reader: %llu", (unsigned long long)refusal);
-    if (refusal != 0) {
-        for (k = 0; k < SPUNMARROW_FACES; k++)
-            if (answer[SPUNMARROW_ANSWER_COUNTS + k] != 0)
-                finding("a count on a refusal");
-        if (memcmp(faces, faces_before, 12 * sizeof *faces) != 0)
-            finding("a refusal by %llu has changed the faces", (unsigned long long)refusal);
-        if (memcmp(out, out_before, out_real * sizeof *out) != 0)
-            finding("a refusal by %llu has changed the output", (unsigned long long)refusal);
-        if ((refusal == 16 && place > 7) || (refusal == 17 && place > 5) || (refusal == 9 && place != out_len / SPUNMARROW_SAVED_QUAD_NUMBERS))
-            finding("the place of a refusal by %llu is %llu", (unsigned long long)refusal, (unsigned long long)place);
-        if (refusal == 9 && out_len >= (size - SPUNMARROW_SAVED_HEAD_BYTES) / 4)
-            finding("an output that is always enough is refused");
-        return;
-    }
-    if (place != 0)
-        finding("a place where the call is accepted");
-    if (size != SPUNMARROW_SAVED_HEAD_BYTES + quads * SPUNMARROW_SAVED_QUAD_BYTES)
-        finding("%llu quads are read of %llu bytes", (unsigned long long)quads, (unsigned long long)size);
-    if (quads > out_len / SPUNMARROW_SAVED_QUAD_NUMBERS)
-        finding("more quads than the output holds, and not refused");
-    for (k = 0; k < SPUNMARROW_FACES; k++)
-        if ((faces[2 * k] != 1 && faces[2 * k] != -1) || faces[2 * k + 1] < 0 || faces[2 * k + 1] > 5)
-            finding("face %d is read as %d %d", k, faces[2 * k], faces[2 * k + 1]);
-    i = (size_t)quads * SPUNMARROW_SAVED_QUAD_NUMBERS;
-    if (memcmp(out + i, out_before + i, (out_real - i) * sizeof *out) != 0)
-        finding("the output has changed past the last quad");
-    spunmarrow_write_saved(faces, answer + SPUNMARROW_ANSWER_COUNTS, out, i, again, size, written);
-    if (written[SPUNMARROW_ANSWER_REFUSAL] != 0)
-        finding("what was read is not written: refused by %llu at %llu", (unsigned long long)written[0], (unsigned long long)written[1]);
-    if (written[SPUNMARROW_WRITE_ANSWER_WRITTEN] != size || memcmp(again, file, size) != 0)
-        finding("what was read is written as other bytes");
-}
-
-static void read_once(struct bytes *b)
-{
-    static uint32_t list[MOST_LIST], o_before[MOST_OUT], o_want[MOST_OUT];
-    static uint8_t file[MOST_FILE];
-    struct lease f, faces, o, a;
-    struct lot o_lot;
-    uint64_t quads = 0, want[8], answer[8], poison[8];
-    int32_t faces_before[12], faces_want[12];
-    uint32_t how = draw_below(b, 16);
-    size_t begins[7], size, claimed, i;
-    const void *file_at;
-    void *out_at;
-
-    now.function = LOAD;
-    upper = draw_word(b);
-    draw_faces(b, now.faces);
-    draw_counts(b, now.counts);
-    for (i = 0; i < 6; i++)
-        quads += now.counts[i];
-    draw_list(b, now.counts, list, (size_t)quads * 5);
-
-    /* the file: whole, with one damage or two, or any bytes, also after a head */
-    size = lay_out(list, file, begins);
-    if (how == 0) {
-        size = draw_below(b, 300);
-        for (i = draw_below(b, 2) * 10; i < size; i++)
-            file[i] = (uint8_t)draw_below(b, chance(b, 200) ? 2 : 256);
-    } else if (how < 9)
-        for (i = how < 6 ? 1 : 2; i > 0; i--)
-            size = damage(b, file, size, begins);
-    claimed = size;
-    if (how == 15 && chance(b, 96)) { /* a file that is said to be far longer: 16 at 7, and nothing past it is read */
-        static const uint64_t far[] = {1ull << 31, 1ull << 32, 1ull << 33, 1ull << 60};
-
-        claimed = (size_t)(size + far[draw_below(b, 4)]);
-        long_lengths++;
-    }
-    o_lot = draw_length(b, (size_t)quads * 5, MOST_LIST - 64);
-    if (quads != 0 && chance(b, 24)) /* the last quad fits in part */
-        o_lot.real = o_lot.claimed = (size_t)quads * 5 - 1 - draw_below(b, 4);
-
-    /* the buffers */
-    f = lend_copy(b, SAVED, file, size);
-    file_at = claimed == 0 ? nowhere(b, SAVED) : hand(&f);
-    faces = lend(b, READ_FACES, sizeof now.faces);
-    dirty(b, faces.mine, faces.bytes);
-    memcpy(faces_before, faces.mine, sizeof faces_before);
-    memcpy(faces_want, faces.mine, sizeof faces_want);
-    o = lend(b, OUT, o_lot.real * sizeof *list);
-    dirty(b, o.mine, o.bytes);
-    memcpy(o_before, o.mine, o.bytes);
-    memcpy(o_want, o.mine, o.bytes);
-    out_at = o_lot.claimed == 0 ? nowhere(b, OUT) : hand(&o);
-    for (i = 0; i < 8; i++)
-        poison[i] = 0xFACE000000000000u + (uint64_t)i;
-    a = lend_copy(b, ANSWER, poison, sizeof poison);
-    now.lengths[0] = claimed, now.lengths[2] = o_lot.claimed;
-    now.at[0] = file_at, now.at[2] = out_at;
-
-    _mm_setcsr(DEFAULT_FLOATS);
-    THROUGH(read_type, spunmarrow_read_saved)(file_at, claimed, hand(&faces), out_at, o_lot.claimed, hand(&a));
-    kept_registers();
-
-    /* what it left */
-    memcpy(answer, a.mine, sizeof answer);
-    for (i = 0; i < 8; i++)
-        if (answer[i] == poison[i])
-            finding("number %d of the answer is not written", (int)i);
-    reader_holds(answer, (int32_t *)(void *)faces.mine, faces_before, (uint32_t *)(void *)o.mine, o_before, o_lot.real, o_lot.claimed, file, claimed);
-    reading_read_saved(file, claimed, faces_want, o_want, o_lot.claimed, want);
-    for (i = 0; i < 8; i++)
-        if (answer[i] != want[i])
-            finding("number %d of the answer is %llu, and by the second reading %llu", (int)i, (unsigned long long)answer[i], (unsigned long long)want[i]);
-    if (memcmp(faces.mine, faces_want, sizeof faces_want) != 0)
-        finding("the faces are not the second reading's");
-    if (memcmp(o.mine, o_want, o.bytes) != 0)
-        finding("the output is not the second reading's");
-    if (memcmp(f.mine, file, size) != 0)
-        finding("what was lent to be read has changed");
-    take_back(&f, "the file");
-    take_back(&faces, "the faces");
-    take_back(&o, "the output");
-    take_back(&a, "the answer");
-    by_number[LOAD][answer[0]]++;
-    if (answer[0] == 0) {
-        for (quads = 0, i = 2; i < 8; i++)
-            quads += answer[i];
-        quads_read += quads;
-        read_with_quads += quads != 0;
-    }
-}
-
 /* ---- the target */
 
 void target_prepare(void)
@@ -1261,9 +1010,7 @@ int LLVMFuzzerTestOneInput(const uint8_t *data, size_t size)
     }
     for (function = CORNER; function <= TEX; function++)
         draw_once(&b, (enum function)function);
-    write_once(&b, WRITE);
+    write_once(&b);
     spell_once(&b);
-    write_once(&b, SAVE);
-    read_once(&b);
     return 0;
 }

@@ -1,6 +1,5 @@
-/* Hostile words and files for host/mesh_file.c, host/obj_file.c and host/save_file.c, which are compiled in with their mains under other names and their allocations, and what writes a
- * file, through this one. What they print and write, their exit status, their memory and their open files are held to what their heads say, with the second reading (oracle/reading) as
- * the mesher and writer.
+/* Hostile words and files for host/mesh_file.c and host/obj_file.c, which are compiled in with their mains under other names and their allocations, and what writes a file, through this
+ * one. What they print and write, their exit status, their memory and their open files are held to what their heads say, with the second reading (oracle/reading) as the mesher and writer.
  */
 #define _GNU_SOURCE
 #include "common.h"
@@ -21,7 +20,6 @@
 
 int mesh_file_main(int argc, char **argv);
 int obj_file_main(int argc, char **argv);
-int save_file_main(int argc, char **argv);
 void *fire_malloc(size_t size);
 void *fire_realloc(void *old, size_t size);
 void fire_free(void *old);
@@ -112,11 +110,10 @@ void fire_free(void *old)
         drop(block_at(old));
 }
 
-/* ---- what the writers write by: one step that fails. A disk that says it has the bytes and has others is save_file's alone to see, and the last of the steps. */
+/* ---- what obj_file writes by: one step that fails */
 
-enum step { NO_STEP, FDOPEN, FWRITE, FFLUSH, FSYNC, FCLOSE, RENAME, OTHER_BYTES, STEPS };
+enum step { NO_STEP, FDOPEN, FWRITE, FFLUSH, FSYNC, FCLOSE, RENAME, STEPS };
 static enum step broken;
-static uint32_t other_kind, other_at;
 
 /* Whether this is the step that fails. */
 static int breaks(enum step step)
@@ -130,28 +127,10 @@ FILE *fire_fdopen(int fd, const char *mode)
     return breaks(FDOPEN) ? NULL : fdopen(fd, mode);
 }
 
-/* Writes a byte less, a byte more or a changed bit, and says that all is well. */
-static size_t write_other(const uint8_t *from, size_t count, FILE *f)
-{
-    size_t at = other_at % count;
-
-    if (other_kind == 0)
-        count--;
-    for (size_t i = 0; i < count; i++)
-        if (fputc(other_kind > 1 && i == at ? from[i] ^ 1 << other_kind % 8 : from[i], f) == EOF)
-            return 0;
-    if (other_kind == 1)
-        fputc(0, f);
-    return count + (other_kind == 0);
-}
-
 size_t fire_fwrite(const void *from, size_t size, size_t count, FILE *f)
 {
-    size_t done;
+    size_t done = fwrite(from, size, broken == FWRITE ? count / 2 : count, f);
 
-    if (broken == OTHER_BYTES)
-        return write_other(from, size * count, f);
-    done = fwrite(from, size, broken == FWRITE ? count / 2 : count, f);
     errno = ENOSPC;
     return done;
 }
@@ -201,10 +180,7 @@ int fire_remove(const char *name)
 #define MOST_WORDS 24
 #define FILES 3
 static char words[MOST_WORDS][64], *argv[MOST_WORDS + 1], long_name[5000];
-static int argc;
-static enum program { MESH_FILE, OBJ_FILE, SAVE_FILE, PROGRAMS } program; /* the two last write a file */
-static const char *const program_names[PROGRAMS] = {"mesh_file", "obj_file", "save_file"};
-static int (*const mains[PROGRAMS])(int, char **) = {mesh_file_main, obj_file_main, save_file_main};
+static int argc, obj; /* obj: obj_file is run, and not mesh_file */
 
 static struct {
     char name[32];
@@ -215,10 +191,9 @@ static struct {
 #define MOST_BYTES (2 * 34 * 34 * 34 + 64)
 
 static int out_fd, err_fd, full_fd;
-static uint64_t runs, guarded_runs, by_status[PROGRAMS][3], meshed, unread, refused[18], quads_printed, failed_allocations, failed_writes, bytes_written[PROGRAMS], kept[PROGRAMS],
-    broken_steps[PROGRAMS];
+static uint64_t runs, guarded_runs, by_status[2][3], meshed, unread, refused[18], quads_printed, failed_allocations, failed_writes, obj_bytes, obj_kept, obj_broken;
 
-/* Where the writers write: a folder of the run's own, and in it the file, an old one or none; or a name that they must leave. */
+/* Where obj_file writes: a folder of the run's own, and in it the file, an old one or none; or a name that it must leave. */
 enum place { FREE_NAME, OLD_FILE, FOLDER, NO_FOLDER, PIPE, LINK, LONG_NAME, NO_NAME, PART_THERE, THE_BLOCK, PLACES };
 static enum place place;
 static char out_name[64], part_name[96], block_name[64];
@@ -228,13 +203,13 @@ void target_describe(int fd)
 {
     int i;
 
-    dprintf(fd, "fire: %s", program_names[program]);
+    dprintf(fd, "fire: %s", obj ? "obj_file" : "mesh_file");
     for (i = 1; i < argc; i++)
         dprintf(fd, " '%.60s'", argv[i]);
     for (i = 0; i < FILES; i++)
         dprintf(fd, "; %s has %lu bytes", files[i].name, (unsigned long)files[i].size);
     dprintf(fd, "; the allocation that fails: %d; guard pages: %d", fail_at, guarded);
-    if (program != MESH_FILE)
+    if (obj)
         dprintf(fd, "; the place: %d; the step that fails: %d", place, broken);
     dprintf(fd, "\n");
 }
@@ -243,14 +218,13 @@ void target_report(int fd)
 {
     int i;
 
-    for (i = 0; i < PROGRAMS; i++)
-        dprintf(fd, "fire: %s: %llu with status 0, %llu with 1, %llu with 2\n", program_names[i], (unsigned long long)by_status[i][0], (unsigned long long)by_status[i][1],
+    for (i = 0; i < 2; i++)
+        dprintf(fd, "fire: %s: %llu with status 0, %llu with 1, %llu with 2\n", i ? "obj_file" : "mesh_file", (unsigned long long)by_status[i][0], (unsigned long long)by_status[i][1],
                 (unsigned long long)by_status[i][2]);
     dprintf(fd, "fire: %llu runs of the host; with guard pages %llu, with an allocation that failed %llu, with an output that could not be written %llu\n", (unsigned long long)runs,
             (unsigned long long)guarded_runs, (unsigned long long)failed_allocations, (unsigned long long)failed_writes);
-    for (i = OBJ_FILE; i < PROGRAMS; i++)
-        dprintf(fd, "fire: %s: %llu bytes; a name that it must leave %llu, a step of writing that failed %llu\n", program_names[i], (unsigned long long)bytes_written[i],
-                (unsigned long long)kept[i], (unsigned long long)broken_steps[i]);
+    dprintf(fd, "fire: obj_file: %llu bytes of OBJ; a name that it must leave %llu, a step of writing that failed %llu\n", (unsigned long long)obj_bytes, (unsigned long long)obj_kept,
+            (unsigned long long)obj_broken);
     dprintf(fd, "fire: %llu files meshed with %llu quads, %llu not read; refused", (unsigned long long)meshed, (unsigned long long)quads_printed, (unsigned long long)unread);
     for (i = 1; i < 18; i++)
         if (refused[i] != 0)
@@ -331,8 +305,8 @@ static int read_words(struct job *job)
     return i < argc ? i : 0;
 }
 
-/* The same for the writers: the place of the block's name. */
-static int read_writer_words(struct job *job)
+/* The same for obj_file: the place of the block's name. */
+static int read_obj_words(struct job *job)
 {
     int i, first = read_words(job);
 
@@ -419,13 +393,13 @@ static int mesh_again(const struct job *job, const char *name, size_t *capacity,
     return 0;
 }
 
-/* Whether a writer sees before all else that the name is not to be replaced. */
+/* Whether obj_file sees before all else that the name is not to be replaced. */
 static int is_left(void)
 {
     return place == FOLDER || place == PIPE || place == LINK || place == LONG_NAME || place == THE_BLOCK;
 }
 
-/* What a writer should make of a block: the bytes that should be written; answers 1 where nothing should. */
+/* What obj_file should make of a block: the text that should be written; answers 1 where nothing should. */
 static int write_again(const struct job *job, const char *name, char *said, size_t said_room)
 {
     size_t capacity = 65536, all, room;
@@ -438,20 +412,18 @@ static int write_again(const struct job *job, const char *name, char *said, size
     out = mesh_of(job, name, &capacity, &asks, answer, &all, said, said_room);
     if (out == NULL)
         return 1;
-    room = program == OBJ_FILE ? SPUNMARROW_OBJ_HEAD_BYTES + all * SPUNMARROW_OBJ_MOST_QUAD_BYTES : SPUNMARROW_SAVED_HEAD_BYTES + all * SPUNMARROW_SAVED_QUAD_BYTES;
+    room = SPUNMARROW_OBJ_HEAD_BYTES + all * SPUNMARROW_OBJ_MOST_QUAD_BYTES;
     if (room > text_room) {
         text_room = room;
         text = realloc(text, text_room);
         if (text == NULL)
             abort();
     }
-    (program == OBJ_FILE ? reading_write_obj : reading_write_saved)(cube, answer + 2, out, all * 5, (uint8_t *)text, room, written);
+    reading_write_obj(cube, answer + 2, out, all * 5, (uint8_t *)text, room, written);
     free(out);
     if (written[0] != 0)
         finding("by the second reading the writer refuses a greedy mesh by %llu", (unsigned long long)written[0]);
     if (fail_at == asks + 1 || fail_at == asks + 2 || broken != NO_STEP || (place != FREE_NAME && place != OLD_FILE))
-        return 1;
-    if (program == SAVE_FILE && fail_at == asks + 3) /* the list that it reads back into */
         return 1;
     quads_printed += all;
     text_size = (size_t)written[2];
@@ -488,7 +460,7 @@ static void has(const char *name, const char *bytes, size_t size)
 /* What has to stand under the name before the run: by the place. */
 static void prepare_place(int f)
 {
-    snprintf(out_name, sizeof out_name, "%s/out", folder);
+    snprintf(out_name, sizeof out_name, "%s/o.obj", folder);
     snprintf(part_name, sizeof part_name, "%s.%lu.part", place == NO_NAME ? "" : out_name, (unsigned long)getpid());
     if (place == OLD_FILE || place == PART_THERE)
         put(out_name, old_text, sizeof old_text - 1);
@@ -503,7 +475,7 @@ static void prepare_place(int f)
 /* Whether a name may be in the folder afterwards. */
 static int belongs(const char *name, int status)
 {
-    if (strcmp(name, "out") == 0)
+    if (strcmp(name, "o.obj") == 0)
         return status == 0 || place == OLD_FILE || place == LINK || place == PIPE || place == PART_THERE;
     if (strcmp(name, "block") == 0)
         return place == THE_BLOCK;
@@ -599,19 +571,15 @@ static void draw_file(struct bytes *b, int f, size_t block, int checkered)
         abort();
 }
 
-/* The name that a writer is given, and what of writing it fails. */
+/* The name that obj_file is given, and what of writing it fails. */
 static void draw_place(struct bytes *b)
 {
     uint32_t kind = draw_below(b, 4 * PLACES);
     char name[64];
 
     place = kind < PLACES ? (enum place)kind : kind % 2 ? OLD_FILE : FREE_NAME;
-    broken = chance(b, 64) ? (enum step)(1 + draw_below(b, program == SAVE_FILE ? STEPS - 1 : OTHER_BYTES - 1)) : NO_STEP;
-    if (program == SAVE_FILE && chance(b, 64))
-        broken = OTHER_BYTES;
-    other_kind = draw_below(b, 16);
-    other_at = chance(b, 64) ? 4 + draw_below(b, 6) : draw_below(b, 65536); /* a face byte, or any */
-    snprintf(name, sizeof name, place == NO_FOLDER ? "%s/nowhere/out" : place == FOLDER ? "%s" : place == THE_BLOCK ? "%s/block" : "%s/out", folder);
+    broken = chance(b, 64) ? (enum step)(1 + draw_below(b, STEPS - 1)) : NO_STEP;
+    snprintf(name, sizeof name, place == NO_FOLDER ? "%s/nowhere/o.obj" : place == FOLDER ? "%s" : place == THE_BLOCK ? "%s/block" : "%s/o.obj", folder);
     if (place == THE_BLOCK) {
         snprintf(block_name, sizeof block_name, "%s", name);
         snprintf(words[argc - 1], sizeof words[argc - 1], "%s", name);
@@ -629,14 +597,14 @@ static void draw_run(struct bytes *b)
     size_t block = 1;
 
     argc = 0;
-    program = chance(b, 160) ? chance(b, 128) ? OBJ_FILE : SAVE_FILE : MESH_FILE;
-    checkered = checkered && (program == MESH_FILE || chance(b, 64)); /* many quads are a long text */
-    add_word(program_names[program]);
+    obj = chance(b, 128);
+    checkered = checkered && (!obj || chance(b, 64)); /* many quads are a long text */
+    add_word(obj ? "obj_file" : "mesh_file");
     for (i = 0; i < 3; i++)
         shape[i] = checkered ? 34 : chance(b, 8) ? 254 + draw_below(b, 4) : chance(b, 2) ? 0 : 2 + draw_below(b, 6);
-    if (program != MESH_FILE ? chance(b, 8) : checkered || chance(b, 96))
+    if (obj ? chance(b, 3) : checkered || chance(b, 96))
         add_word("--unit");
-    if (program == MESH_FILE && chance(b, 96))
+    if (!obj && chance(b, 96))
         add_word("--quads");
     if (odd)
         add_word(odd_words[draw_below(b, sizeof odd_words / sizeof odd_words[0])]);
@@ -659,9 +627,9 @@ static void draw_run(struct bytes *b)
     }
     for (i = 0; i < FILES; i++)
         files[i].size = 0;
-    for (i = program != MESH_FILE ? 1 : draw_below(b, 32) == 5 ? 0 : 1 + draw_below(b, FILES); i > 0; i--) {
+    for (i = obj ? 1 : draw_below(b, 32) == 5 ? 0 : 1 + draw_below(b, FILES); i > 0; i--) {
         if (chance(b, 24)) {
-            uint32_t most_k = program != MESH_FILE ? 4 : sizeof no_files / sizeof no_files[0], k = draw_below(b, most_k + 1); /* of a writer none that could be made */
+            uint32_t most_k = obj ? 4 : sizeof no_files / sizeof no_files[0], k = draw_below(b, most_k + 1); /* of obj_file none that could be made */
 
             add_word(k < most_k ? no_files[k] : "");
             if (k == most_k)
@@ -671,15 +639,15 @@ static void draw_run(struct bytes *b)
             add_word(files[i - 1].name);
         }
     }
-    if (program != MESH_FILE) {
+    if (obj) {
         draw_place(b);
         if (chance(b, 8))
             add_word("one word too many");
     }
-    if (chance(b, 8) && !(program != MESH_FILE && odd)) /* an odd word more and a word less could make another file the output */
+    if (chance(b, 8) && !(obj && odd)) /* an odd word more and a word less could make another file the OBJ */
         argc = 1 + (int)draw_below(b, (uint32_t)argc - 1);
     argv[argc] = NULL;
-    fail_at = chance(b, 12) ? 1 + (int)draw_below(b, 7) : checkered && chance(b, 96) ? 5 : 0;
+    fail_at = chance(b, 12) ? 1 + (int)draw_below(b, 6) : checkered && chance(b, 96) ? 5 : 0;
 }
 
 /* ---- the target */
@@ -733,10 +701,9 @@ int LLVMFuzzerTestOneInput(const uint8_t *data, size_t size)
 {
     static char said[FILES][128];
     struct bytes b = bytes_of(data, size);
-    int status, wanted = 0, first, free_before, full, i, asks = 4, could_start, n = 0, writes;
+    int status, wanted = 0, first, free_before, full, i, asks = 4, could_start, n = 0;
     size_t capacity = 65536, out_size, err_size;
     const char *out, *err;
-    char usage[32];
     struct job job;
 
     started(data, size);
@@ -747,12 +714,11 @@ int LLVMFuzzerTestOneInput(const uint8_t *data, size_t size)
     /* what should come of it */
     text_size = 0;
     memset(said, 0, sizeof said);
-    writes = program != MESH_FILE;
-    first = writes ? read_writer_words(&job) : read_words(&job);
-    could_start = first == 0 || (writes && is_left()) || fail_at < 1 || fail_at > 4;
+    first = obj ? read_obj_words(&job) : read_words(&job);
+    could_start = first == 0 || (obj && is_left()) || fail_at < 1 || fail_at > 4;
     if (first == 0)
         wanted = 2;
-    else if (writes)
+    else if (obj)
         wanted = write_again(&job, argv[first], said[0], sizeof said[0]);
     else if (!could_start)
         wanted = 1;
@@ -762,9 +728,9 @@ int LLVMFuzzerTestOneInput(const uint8_t *data, size_t size)
                 wanted = 1;
                 n += n < FILES - 1;
             }
-    if (!writes && full && text_size != 0)
+    if (!obj && full && text_size != 0)
         wanted = 1;
-    if (writes)
+    if (obj)
         prepare_place(0);
 
     fflush(stdout);
@@ -775,7 +741,7 @@ int LLVMFuzzerTestOneInput(const uint8_t *data, size_t size)
     asked = 0;
     free_before = lowest_free();
     entered();
-    status = mains[program](argc, argv);
+    status = obj ? obj_file_main(argc, argv) : mesh_file_main(argc, argv);
     left();
     fflush(stdout);
     __fpurge(stdout);
@@ -785,13 +751,13 @@ int LLVMFuzzerTestOneInput(const uint8_t *data, size_t size)
     guarded_runs += (uint64_t)guarded;
     if (status < 0 || status > 2 || status != wanted)
         finding("the exit status is %d, and should be %d", status, wanted);
-    by_status[program][status]++;
+    by_status[obj][status]++;
     failed_allocations += first != 0 && fail_at != 0 && asked >= fail_at;
-    failed_writes += !writes && full && text_size != 0;
-    if (writes) {
-        bytes_written[program] += text_size;
-        kept[program] += first != 0 && is_left();
-        broken_steps[program] += first != 0 && broken != NO_STEP;
+    failed_writes += !obj && full && text_size != 0;
+    if (obj) {
+        obj_bytes += text_size;
+        obj_kept += first != 0 && is_left();
+        obj_broken += first != 0 && broken != NO_STEP;
         look_at_place(status, 0);
         if (place == NO_NAME && access(part_name, F_OK) == 0)
             finding("%s is left", part_name);
@@ -803,8 +769,7 @@ int LLVMFuzzerTestOneInput(const uint8_t *data, size_t size)
         finding("what is printed is not the second reading's");
     if (status != 0 && err_size == 0)
         finding("nothing is said on standard error");
-    snprintf(usage, sizeof usage, "usage: %s ", program_names[program]);
-    if (status == 2 && strstr(err, usage) == NULL)
+    if (status == 2 && strstr(err, obj ? "usage: obj_file" : "usage: mesh_file") == NULL)
         finding("the usage is not said");
     if (status == 0 && strstr(err, "refused") != NULL)
         finding("a refusal is said, and the status is 0");

@@ -201,12 +201,6 @@ void block_explain(const struct block *b, const char *file, const uint64_t *answ
     case SPUNMARROW_REFUSED_SHORT_OUTPUT:
         fprintf(stderr, "the output is too short for what is to be written\n");
         break;
-    case SPUNMARROW_REFUSED_FILE:
-        if (place > SPUNMARROW_FACES)
-            fprintf(stderr, "bytes follow the last section\n");
-        else
-            fprintf(stderr, "section %" PRIu64 " ends early%s\n", place, place == 0 ? ", or doesn't count 6" : "");
-        break;
     case SPUNMARROW_REFUSED_NUMBER:
         fprintf(stderr, "the permutation's number of face %" PRIu64 " is not 0 to 5\n", place);
         break;

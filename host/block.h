@@ -46,7 +46,7 @@ size_t block_quad_numbers(const struct block *b);
 /* Meshes the voxels; makes the quads' buffer larger where they don't fit. */
 void block_mesh(struct block *b, uint64_t answer[SPUNMARROW_ANSWER_NUMBERS]);
 
-/* Says in words what a mesher, a writer or a reader refused, and where. */
+/* Says in words what a mesher or a writer refused, and where. */
 void block_explain(const struct block *b, const char *file, const uint64_t *answer);
 
 #endif

@@ -74,36 +74,12 @@ static void visible_block_faces(void)
                                    small ? 7 : sizeof out / sizeof *out, answer);
 }
 
-/* A mesh of two quads: the second bad, or too many counted. */
-static const uint32_t list[2][10] = {{1, 2, 3, 4, 5, 6, 7, 8, 9, 10}, {1, 2, 3, 4, 5, 6, 7, 8, 9, 0}};
-static const uint64_t counts[2][6] = {{1, 0, 0, 1, 0, 0}, {1, 0, 0, 0, 0, 2}};
-
 static void write_obj(void)
 {
+    static const uint32_t list[2][10] = {{1, 2, 3, 4, 5, 6, 7, 8, 9, 10}, {1, 2, 3, 4, 5, 6, 7, 8, 9, 0}};
+    static const uint64_t counts[2][6] = {{1, 0, 0, 1, 0, 0}, {1, 0, 0, 0, 0, 2}};
     static uint64_t answer[3];
     spunmarrow_write_obj(faces[turned], counts[bad && small], list[bad], 10, text, small ? 7 : sizeof text, answer);
-}
-
-static void write_saved(void)
-{
-    static uint64_t answer[3];
-    spunmarrow_write_saved(faces[turned], counts[bad && small], list[bad], 10, text, small ? 7 : sizeof text, answer);
-}
-
-/* Files of two quads, the second good or bad, in the first section or the last. */
-#define HEAD 6, 0, 0, 0, 0, 8, 2, 10, 1, 9
-#define QUAD(width) 1, 0, 0, 0, 1, 0, 0, 0, 1, 0, 0, 0, width, 0, 0, 0, 1, 0, 0, 0
-#define EMPTY 0, 0, 0, 0
-#define FIRST(width) {HEAD, 2, 0, 0, 0, QUAD(1), QUAD(width)}
-#define LAST(width) {HEAD, 1, 0, 0, 0, QUAD(1), EMPTY, EMPTY, EMPTY, EMPTY, 1, 0, 0, 0, QUAD(width)}
-
-static void read_saved(void)
-{
-    static const uint8_t files[2][2][74] = {{FIRST(1), FIRST(0)}, {LAST(1), LAST(0)}};
-    static uint64_t answer[8];
-    static int32_t p[12];
-    spunmarrow_read_saved(files[turned][bad], bad && small ? 73 : 74, p, out, small ? 7 : sizeof out / sizeof *out,
-                          answer);
 }
 
 static void decimal(void)
@@ -175,8 +151,6 @@ int main(void)
         {"spunmarrow_visible_block_faces", visible_block_faces},
         {"spunmarrow_write_obj", write_obj},
         {"spunmarrow_decimal", decimal},
-        {"spunmarrow_write_saved", write_saved},
-        {"spunmarrow_read_saved", read_saved},
     };
     size_t k;
     int status = 0;

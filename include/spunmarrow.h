@@ -81,24 +81,15 @@ extern "C" {
 #define SPUNMARROW_WRITE_ANSWER_NUMBERS 3
 #define SPUNMARROW_WRITE_ANSWER_WRITTEN 2 /* how many bytes were written, from the output's start; 0 after a refusal */
 
-/* A reader's answer: eight numbers. The refusal, the place and the counts stand where a mesher's answer has them. */
-#define SPUNMARROW_READ_ANSWER_NUMBERS 8
-
 /* How long an OBJ text may be: SPUNMARROW_OBJ_HEAD_BYTES + quads * SPUNMARROW_OBJ_MOST_QUAD_BYTES bytes are always
  * enough, and without quads it is as long as its head. */
 #define SPUNMARROW_OBJ_HEAD_BYTES 7
 #define SPUNMARROW_OBJ_MOST_QUAD_BYTES 138
 
-/* How many numbers a quad of a saved mesh has, and how long the file is: exactly SPUNMARROW_SAVED_HEAD_BYTES +
- * quads * SPUNMARROW_SAVED_QUAD_BYTES bytes. */
-#define SPUNMARROW_SAVED_QUAD_NUMBERS 5
-#define SPUNMARROW_SAVED_HEAD_BYTES 34 /* a file without quads */
-#define SPUNMARROW_SAVED_QUAD_BYTES 20 /* (bytes_len - 34) / 4 numbers hold the quads of every accepted file */
-
-/* All refusal numbers: when each is given; the place. A mesher's, a writer's and a reader's answer have the place, and
- * the drawing calls, where it is always 0, tell none. An axis as place is 0, 1, 2 for x, y, z, and a face 0 to 5. 12,
- * 13 and 17 have several meanings: one of the drawing calls, one of a mesh that is handed in, one of a file that is
- * read. 10 and 11 are of signed axes, which no call here makes. */
+/* All refusal numbers: when each is given; the place. A mesher's and a writer's answer have the place, and the drawing
+ * calls, where it is always 0, tell none. An axis as place is 0, 1, 2 for x, y, z, and a face 0 to 5. 12 and 13 have
+ * two meanings: one of the drawing calls, one of a mesh that is handed in. 10 and 11 are of signed axes, which no call
+ * here makes. */
 #define SPUNMARROW_ACCEPTED 0
 #define SPUNMARROW_REFUSED_SHAPE 1          /* an axis of the shape is 0 or above 256; the first such axis */
 #define SPUNMARROW_REFUSED_FEW_VOXELS 2     /* fewer voxels lent than X*Y*Z; 0 */
@@ -115,11 +106,8 @@ extern "C" {
                                              * 1,073,741,823 quads; 0 */
 #define SPUNMARROW_REFUSED_VOXEL_SIZE 14    /* a voxel size that is NaN or infinite; 0 */
 #define SPUNMARROW_REFUSED_SHORT_OUTPUT 15  /* a writer's output is shorter than what is to be written; 0 */
-#define SPUNMARROW_REFUSED_FILE 16          /* a file ends early, its section 0 doesn't count 6, or bytes follow its
-                                             * last section; the section, 0 to 6; 7: bytes after the last */
 #define SPUNMARROW_REFUSED_NUMBER 17        /* a permutation's number outside 0 to 5, a corner's outside 0 to 3, or an
-                                             * axis' outside 0 to 2; of six faces the first such face. Of a file: a
-                                             * face byte outside the code; the first such byte's number, 0 to 5 */
+                                             * axis' outside 0 to 2; of six faces the first such face */
 #define SPUNMARROW_REFUSED_COUNTS 24        /* the counts sum to more quads than the list holds; 0 */
 
 /* ---- meshing ----
@@ -236,16 +224,15 @@ uint32_t spunmarrow_tex_coords(int32_t sign, uint32_t permutation, uint32_t u_fl
  *     f 1 2 3
  *     f 2 4 3
  *
- * `counts` may lie in a mesher's or a reader's answer; the writer's own `answer` is another array. Quads past the
- * counts' sum, and a last part quad, are never read. What greedy meshing has accepted is refused by 15 alone, where it
- * is handed in with the same faces:
+ * `counts` may lie in a mesher's answer; the writer's own `answer` is another array. Quads past the counts' sum, and a
+ * last part quad, are never read. What greedy meshing has accepted is refused by 15 alone, where it is handed in with
+ * the same faces:
  *     uint64_t mesh[SPUNMARROW_ANSWER_NUMBERS], answer[SPUNMARROW_WRITE_ANSWER_NUMBERS];
  *     spunmarrow_greedy_quads(shape, min, max, faces, voxels, voxels_len, visited, visited_len, quads, quads_len,
  *                             mesh);
  *     if (mesh[SPUNMARROW_ANSWER_REFUSAL] == SPUNMARROW_ACCEPTED)
  *         spunmarrow_write_obj(faces, mesh + SPUNMARROW_ANSWER_COUNTS, quads, quads_len, out, out_len, answer);
- * A refused mesher's counts are 0, and would give the text of an empty mesh. host/obj_file.c, with host/write_file.c
- * and host/block.c, is a program to copy.
+ * A refused mesher's counts are 0, and would give the text of an empty mesh. host/obj_file.c is a program to copy.
  */
 void spunmarrow_write_obj(const int32_t faces[12], const uint64_t counts[6], const uint32_t *quads, size_t quads_len,
                           uint8_t *out, size_t out_len, uint64_t answer[3]);
@@ -258,74 +245,6 @@ void spunmarrow_write_obj(const int32_t faces[12], const uint64_t counts[6], con
  *     size_t digits = spunmarrow_decimal(1024, scratch, sizeof scratch);     4, and scratch begins with 1024
  */
 size_t spunmarrow_decimal(uint32_t n, uint8_t *scratch, size_t scratch_len);
-
-/* ---- saved meshes ----
- *
- * A saved mesh is a file of seven sections, each after its count, and nothing follows them. The counts and the numbers
- * of the quads have 32 bits, low byte first:
- *     section 0         the count 6, and six face bytes, one for each face in order: the permutation's number, 0 to 5,
- *                       plus 8 if the sign is -1
- *     sections 1 to 6   how many quads the group has, and its quads, five numbers each
- * One quad 1 1 1 1 1 on +X, and nothing on the other faces of a cube, is these 54 bytes, in hexadecimal:
- *     06 00 00 00   00 08 02 0A 01 09
- *     01 00 00 00   01 00 00 00 01 00 00 00 01 00 00 00 01 00 00 00 01 00 00 00
- *     00 00 00 00   00 00 00 00   00 00 00 00   00 00 00 00   00 00 00 00
- *
- * Each call undoes the other. Of what the writer has written the reader, given room, accepts exactly those bytes and
- * gives the faces, the counts and the quads that were handed in. Of what the reader has accepted the writer, given room
- * and at most 1,073,741,823 quads, writes the same bytes.
- */
-
-/* A greedy mesh as a saved mesh.
- *
- * Refuses as spunmarrow_write_obj does, the first that applies, and `out` is then as it was:
- *   17  a permutation's number is outside 0 to 5; the place is the first such face.
- *   24  the counts sum to more than quads_len / SPUNMARROW_SAVED_QUAD_NUMBERS, rounded down, which is what the list
- *       holds; 0. The sum is the mathematical one: counts whose sum is 2 to the 64th or more are refused as well.
- *   6   a sign is neither 1 nor -1, also of a face whose group is empty; the first such face.
- *   12  a quad of group k is outside the quad limits by the u and v of face k; the first such quad's number.
- *   13  there are more than 1,073,741,823 quads; 0.
- *   15  out_len is less than the length of the file; 0. An out_len of exactly that length is enough.
- * Accepted: the file stands at the start of `out`, answer[SPUNMARROW_WRITE_ANSWER_WRITTEN] bytes of it, and nothing of
- * `out` past it has changed. All three numbers of `answer` are written, whatever happens; what they held before is not
- * read.
- *
- * `counts` may lie in a mesher's or a reader's answer; the writer's own `answer` is another array. Quads past the
- * counts' sum, and a last part quad, are never read. What greedy meshing has accepted is refused by 15 alone, where it
- * is handed in with the same faces, as at spunmarrow_write_obj; a refused mesher's or reader's counts are 0, and would
- * give the file of an empty mesh. host/save_file.c, with host/write_file.c and host/block.c, is a program to copy.
- */
-void spunmarrow_write_saved(const int32_t faces[12], const uint64_t counts[6], const uint32_t *quads, size_t quads_len,
-                            uint8_t *out, size_t out_len, uint64_t answer[3]);
-
-/* Reads a saved mesh: its faces, its counts and its quads. Any bytes at all may be handed in.
- *
- * Refuses, the first that applies. `faces` and `out` are then as they were, after 9 as well, and the counts are 0:
- *   16  the bytes are not seven sections; the place is the first section, 0 to 6, that has fewer than 4 bytes for its
- *       count, that counts more face bytes or quads than there are bytes left for, or that is section 0 and doesn't
- *       count 6; it is 7 where bytes follow section 6. No count wraps round, up to 4,294,967,295: it is compared with
- *       the bytes left / 20.
- *   17  a face byte is neither 0 to 5 nor 8 to 13; the first such byte's number, 0 to 5.
- *   12  a quad of group k is outside the quad limits by the u and v of the file's face k; the first such quad's number.
- *   9   there are more quads than out_len / SPUNMARROW_SAVED_QUAD_NUMBERS, rounded down, which is what `out` holds and
- *       the place. Nothing is written, unlike after a mesher's 9.
- * Each is looked for in the whole file before the next: a file that has a bad face byte and ends early is 16.
- * Accepted: all of `faces` is written; the quads stand at the start of `out`, the groups end to end, and nothing of
- * `out` past the last quad has changed. All eight numbers of `answer` are written, whatever happens; what they held
- * before is not read.
- *
- * bytes_len is the file's exact length: a buffer that is longer than its file is refused by 16 at 7. (The file that a
- * writer leaves in a longer `out` is its first answer[SPUNMARROW_WRITE_ANSWER_WRITTEN] bytes.) The bytes need no
- * alignment. An out_len of (bytes_len - 34) / 4 is enough for every file that is accepted, and none has fewer than 34
- * bytes:
- *     uint64_t mesh[SPUNMARROW_READ_ANSWER_NUMBERS];
- *     size_t quads_len = bytes_len < SPUNMARROW_SAVED_HEAD_BYTES ? 0 : (bytes_len - SPUNMARROW_SAVED_HEAD_BYTES) / 4;
- *     spunmarrow_read_saved(bytes, bytes_len, faces, quads, quads_len, mesh);
- *     if (mesh[SPUNMARROW_ANSWER_REFUSAL] == SPUNMARROW_ACCEPTED)
- *         spunmarrow_write_obj(faces, mesh + SPUNMARROW_ANSWER_COUNTS, quads, quads_len, out, out_len, answer);
- */
-void spunmarrow_read_saved(const uint8_t *bytes, size_t bytes_len, int32_t faces[12], uint32_t *out, size_t out_len,
-                           uint64_t answer[8]);
 
 #ifdef __cplusplus
 }

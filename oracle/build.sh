@@ -17,27 +17,25 @@ install_packages() {
         die "apt-get install $* failed; see $build/apt.log"
 }
 
-# The tools for this machine's own programs: rustc, cc, ar. With the word c, those of C alone.
+# The tools for this machine's own programs: rustc, cc, ar.
 tools_native() {
     missing=
-    [ "${1:-}" = c ] || command -v rustc >/dev/null || missing="$missing rustc"
+    command -v rustc >/dev/null || missing="$missing rustc"
     command -v gcc >/dev/null || missing="$missing gcc libc6-dev"
     [ -z "$missing" ] || install_packages $missing
     rustc=rustc cc=gcc ar=ar rust_target= runner=
 }
 
 # The tools for x86-64 programs, which is what the archive links into: the machine's own on x86-64; else Debian's compilers for
-# x86-64 and an emulator, with the loader and C library that the kit keeps for its programs. With the word c, those of C alone.
+# x86-64 and an emulator, with the loader and C library that the kit keeps for its programs.
 tools_x86_64() {
     if [ "$(uname -m)" = x86_64 ]; then
-        tools_native "$@"
+        tools_native
         return
     fi
     missing=
-    if [ "${1:-}" != c ]; then
-        [ -x /usr/bin/rustc ] || missing="$missing rustc"
-        ls /usr/lib/rustlib/x86_64-unknown-linux-gnu/lib/libstd-*.rlib >/dev/null 2>&1 || missing="$missing libstd-rust-dev:amd64"
-    fi
+    [ -x /usr/bin/rustc ] || missing="$missing rustc"
+    ls /usr/lib/rustlib/x86_64-unknown-linux-gnu/lib/libstd-*.rlib >/dev/null 2>&1 || missing="$missing libstd-rust-dev:amd64"
     command -v x86_64-linux-gnu-gcc >/dev/null || missing="$missing gcc-x86-64-linux-gnu"
     [ -e /usr/x86_64-linux-gnu/lib/libc.so ] || missing="$missing libc6-dev-amd64-cross"
     command -v qemu-x86_64 >/dev/null || missing="$missing qemu-user"
@@ -73,7 +71,7 @@ build_rust() {
 }
 
 # The files of the second reading.
-reading_parts='meshing geometry obj saved'
+reading_parts='meshing geometry obj'
 
 # build_reading OUT: the second reading of documents 01 and 02, as an archive.
 build_reading() {
@@ -82,12 +80,4 @@ build_reading() {
     done
     rm -f "$1/libreading.a"
     (cd "$1" && $ar rcs libreading.a $(printf '%s.o ' $reading_parts)) || die "the second reading is not archived"
-}
-
-# build_saved_host OUT LIBRARY: the program that asks the product's reader and writer of saved meshes, over that library, and the
-# blocks whose meshes it saves, with their list.
-build_saved_host() {
-    $cc -std=c11 -O2 -Wall -Wextra -Werror "$root/oracle/readers/saved_host.c" "$2" "-Wl,-rpath,$1" -o "$1/saved_host" ||
-        die "saved_host.c does not compile or link"
-    python3 "$root/oracle/readers/blocks.py" "$1" >"$1/blocks" || die "the blocks were not made"
 }

@@ -1,21 +1,17 @@
 //! What bench/run measures: one block, meshed so many times by one side, or by both in turn; or the OBJ text of its greedy quads,
-//! written so many times by one writer, or by all in turn; or their saved mesh, written or read so many times.
+//! written so many times by one writer, or by all in turn.
 //!
 //!     bench greedy|unit BLOCK SIZE REPEATS rust|ours|both
 //!     bench obj BLOCK SIZE REPEATS fprintf|digits|ours|exact|short|all
-//!     bench saved BLOCK SIZE REPEATS write-trusting|write-checking|write-ours|read-trusting|read-checking|read-ours|all
 //!
 //! It writes one line. For one side: how many quads the last call gave, and a number made of all their numbers in order, which two equal lists share.
 //! For both: these for the Rust, these for ours, and the median time of a call for each, in nanoseconds. For a writer: how many
-//! quads and how many bytes. For all: these, once the texts are seen to be the same, and the median time of each writer; and so
-//! for the writers and readers of saved meshes.
+//! quads and how many bytes. For all: these, once the texts are seen to be the same, and the median time of each writer.
 
 mod blocks;
-mod saved;
 mod sides;
 mod texts;
 
-use saved::{Saved, WORKS};
 use sides::{Ours, Rust, Side, Task};
 use std::time::Instant;
 use texts::{Texts, WRITERS};
@@ -24,8 +20,6 @@ fn main() {
     if run().is_none() {
         eprintln!("bench greedy|unit empty|solid|sphere|checkered|random|terrain SIZE REPEATS rust|ours|both");
         eprintln!("bench obj empty|solid|sphere|checkered|random|terrain SIZE REPEATS fprintf|digits|ours|exact|short|all");
-        eprintln!("bench saved empty|solid|sphere|checkered|random|terrain SIZE REPEATS WORK");
-        eprintln!("  WORK: write-trusting|write-checking|write-ours|read-trusting|read-checking|read-ours|all");
         std::process::exit(2);
     }
 }
@@ -34,7 +28,7 @@ fn run() -> Option<()> {
     let words: Vec<String> = std::env::args().skip(1).collect();
     let [mesher, block, size, repeats, side] = <&[String; 5]>::try_from(&words[..]).ok()?;
     let greedy = match mesher.as_str() {
-        "greedy" | "obj" | "saved" => true,
+        "greedy" | "obj" => true,
         "unit" => false,
         _ => return None,
     };
@@ -43,9 +37,6 @@ fn run() -> Option<()> {
     let task = Task { greedy, size, voxels: blocks::block(block, size)? };
     if mesher == "obj" {
         return written(&task, repeats, side);
-    }
-    if mesher == "saved" {
-        return saved(&task, repeats, side);
     }
     match side.as_str() {
         "rust" => println!("{}", told(&task, repeated(&task, &mut Rust::new(&task), repeats))),
@@ -95,36 +86,6 @@ fn written(task: &Task, repeats: usize, by: &str) -> Option<()> {
         }
     }
     println!("{} {} {}", texts.quads, texts.bytes, times.map(|t| median(t).to_string()).join(" "));
-    Some(())
-}
-
-/// The saved mesh written or read by one, or by all.
-fn saved(task: &Task, repeats: usize, by: &str) -> Option<()> {
-    let mut saved = Saved::new(task);
-    if by != "all" {
-        let (_, work) = WORKS.into_iter().find(|w| w.0 == by)?;
-        for _ in 0..repeats {
-            saved.work(work);
-        }
-        println!("{} {}", saved.quads, saved.bytes());
-        return Some(());
-    }
-    if let Some(name) = saved.other() {
-        eprintln!("bench: saved: {} does not give what the others give", name);
-        std::process::exit(1);
-    }
-    let mut times = WORKS.map(|_| Vec::new());
-    // the first of each is not timed
-    for turn in 0..repeats + 1 {
-        for (&(_, work), times) in WORKS.iter().zip(&mut times) {
-            let start = Instant::now();
-            saved.work(work);
-            if turn > 0 {
-                times.push(start.elapsed().as_nanos());
-            }
-        }
-    }
-    println!("{} {} {}", saved.quads, saved.bytes(), times.map(|t| median(t).to_string()).join(" "));
     Some(())
 }
 

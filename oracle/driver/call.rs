@@ -79,16 +79,16 @@ pub struct Drawn {
     pub words: [u32; 16],
 }
 
-/// A mesh that is handed in to a writer. `out` is as the caller left it.
+/// A call of the OBJ writer. `out` is as the caller left it.
 #[derive(Clone, Debug)]
-pub struct Handed {
+pub struct Obj {
     pub faces: [i32; 12],
     pub counts: [u64; 6],
     pub quads: Vec<u32>,
     pub out: Vec<u8>,
 }
 
-/// What a writer leaves: its answer (refusal, place, bytes written) and the output whole.
+/// What the writer leaves: its answer (refusal, place, bytes written) and the output whole.
 #[derive(Clone, Debug, PartialEq)]
 pub struct Written {
     pub answer: [u64; 3],
@@ -110,23 +110,5 @@ pub struct Spelled {
     pub digits: usize,
     pub scratch: Vec<u8>,
     /// Nothing beside the scratch was written.
-    pub kept: bool,
-}
-
-/// A call of the reader of saved meshes. `faces` and `out` are as the caller left them.
-#[derive(Clone, Debug)]
-pub struct File {
-    pub bytes: Vec<u8>,
-    pub faces: [i32; 12],
-    pub out: Vec<u32>,
-}
-
-/// What the reader leaves: its answer (refusal, place, six counts), the faces and the output whole.
-#[derive(Clone, Debug, PartialEq)]
-pub struct Found {
-    pub answer: [u64; 8],
-    pub faces: [i32; 12],
-    pub out: Vec<u32>,
-    /// Nothing beside the faces and the output was written, and nothing that was lent to be read.
     pub kept: bool,
 }

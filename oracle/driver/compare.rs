@@ -1,16 +1,14 @@
 //! Asks all sides the same call and counts where they differ.
 
-use crate::call::{Decimal, Draw, Drawn, File, Found, Handed, Mesh, Meshed, Spelled, Written};
+use crate::call::{Decimal, Draw, Drawn, Mesh, Meshed, Obj, Spelled, Written};
 use crate::crash::named;
 use crate::rust_side;
-use crate::sides::{product, Form, Side, READING};
+use crate::sides::{product, Side, READING};
 use std::collections::BTreeMap;
 use std::fmt::Debug;
 
 #[derive(Default)]
 pub struct Tally {
-    /// Only parts whose name begins so are run.
-    pub only: String,
     pub calls: u64,
     /// Calls that the Rust's text answered too.
     pub with_rust: u64,
@@ -23,8 +21,6 @@ pub struct Tally {
     pub quads: u64,
     /// Quads that accepted calls of the OBJ writer wrote, and bytes.
     pub texts: (u64, u64),
-    /// Quads that accepted calls of the reader of saved meshes read, and bytes.
-    pub files: (u64, u64),
 }
 
 /// So many differences are shown, each line with at most so many characters; all are counted.
@@ -123,8 +119,8 @@ impl Tally {
 
     /// A call of the OBJ writer: the product against the reading, byte for byte; and both against the text that has the Rust's
     /// corners and indices, where the call is accepted or is refused for want of room alone. Answers what the reading leaves.
-    pub fn obj(&mut self, call: &Handed) -> Written {
-        let (reading, product) = self.written_by(Form::Obj, call, &|side| side.write(Form::Obj, call));
+    pub fn obj(&mut self, call: &Obj) -> Written {
+        let (reading, product) = self.obj_by(call, &|side| side.obj(call));
         if reading.answer[0] == 0 || reading.answer[0] == 15 {
             self.with_rust += 1;
             let rust = named(self.calls, "the Rust's text", call, || rust_side::obj(call));
@@ -142,66 +138,16 @@ impl Tally {
         reading
     }
 
-    /// A writer, the product against the reading alone, each asked by `ask`. Answers what both leave.
-    pub fn written_by(&mut self, form: Form, call: &dyn Debug, ask: &dyn Fn(&Side) -> Written) -> (Written, Option<Written>) {
-        let (reading, product) = self.both(call, ask);
-        let kind = match form {
-            Form::Obj => "write_obj",
-            Form::Saved => "write_saved",
-        };
-        *self.by_refusal.entry((kind, reading.answer[0])).or_default() += 1;
-        (reading, product)
-    }
-
-    /// The reader of saved meshes, the product against the reading, each asked by `ask`. Answers what the reading leaves.
-    pub fn found_by(&mut self, call: &dyn Debug, ask: &dyn Fn(&Side) -> Found) -> Found {
-        let (reading, _) = self.both(call, ask);
-        *self.by_refusal.entry(("read_saved", reading.answer[0])).or_default() += 1;
-        reading
-    }
-
-    /// The product against the reading, each asked by `ask`. Answers what both leave.
-    fn both<T: Debug + PartialEq>(&mut self, call: &dyn Debug, ask: &dyn Fn(&Side) -> T) -> (T, Option<T>) {
+    /// The product against the reading alone, each asked by `ask`. Answers what both leave.
+    pub fn obj_by(&mut self, call: &dyn Debug, ask: &dyn Fn(&Side) -> Written) -> (Written, Option<Written>) {
         self.calls += 1;
         let reading = named(self.calls, "the second reading", call, || ask(&READING));
+        *self.by_refusal.entry(("write_obj", reading.answer[0])).or_default() += 1;
         let product = product().map(|p| named(self.calls, "the product", call, || ask(p)));
         if let Some(left) = product.as_ref().filter(|left| **left != reading) {
             self.differs("the product and the second reading", call, left, &reading);
         }
         (reading, product)
-    }
-
-    /// A call of the writer of saved meshes: the product against the reading, byte for byte. What is accepted is read again, with
-    /// room for exactly its quads, and has to come back. Answers what the reading leaves.
-    pub fn save(&mut self, call: &Handed) -> Written {
-        let (left, _) = self.written_by(Form::Saved, call, &|side| side.write(Form::Saved, call));
-        if left.answer[0] == 0 {
-            let quads = &call.quads[..5 * call.counts.iter().sum::<u64>() as usize];
-            let bytes = left.out[..left.answer[2] as usize].to_vec();
-            let file = File { bytes, faces: [0; 12], out: vec![0; quads.len()] };
-            let found = self.found_by(&file, &|side| side.read(&file));
-            let accepted = found.answer[..2] == [0; 2] && found.answer[2..] == call.counts;
-            let same = accepted && found.faces == call.faces && found.out == quads;
-            self.promised("what is written is read again", call, &found, same);
-        }
-        left
-    }
-
-    /// A call of the reader of saved meshes: the product against the reading, byte for byte. What is accepted is written again,
-    /// with room for exactly its bytes, and has to come back. Answers what the reading leaves.
-    pub fn read(&mut self, call: &File) -> Found {
-        let left = self.found_by(call, &|side| side.read(call));
-        if left.answer[0] == 0 {
-            let mut counts = [0; 6];
-            counts.copy_from_slice(&left.answer[2..]);
-            self.files.0 += counts.iter().sum::<u64>();
-            self.files.1 += call.bytes.len() as u64;
-            let mesh = Handed { faces: left.faces, counts, quads: left.out.clone(), out: vec![0; call.bytes.len()] };
-            let (written, _) = self.written_by(Form::Saved, &mesh, &|side| side.write(Form::Saved, &mesh));
-            let same = written.answer == [0, 0, call.bytes.len() as u64] && written.out == call.bytes;
-            self.promised("what is read is written again", call, &written, same);
-        }
-        left
     }
 
     /// A call of the decimal formatter: the product against the reading. Answers what the reading leaves.
@@ -234,7 +180,6 @@ impl Tally {
         println!("  faces of accepted meshes, by sign and permutation: {}", faces.join(", "));
         println!("  quads listed by accepted meshes: {}", self.quads);
         println!("  quads written by accepted OBJ texts: {}, bytes: {}", self.texts.0, self.texts.1);
-        println!("  quads read from accepted saved meshes: {}, bytes: {}", self.files.0, self.files.1);
     }
 }
 

@@ -1,24 +1,19 @@
-//! Random lists for the writers, good and bad, and the lists of greedy meshes handed on as they are.
+//! Random lists for the OBJ writer, good and bad, and the lists of greedy meshes handed on as they are.
 
-use crate::call::{Handed, Mesh, Written};
+use crate::call::{Mesh, Obj};
 use crate::compare::Tally;
 use crate::meshes;
 use crate::random::Random;
-use crate::sides::{Form, READING};
+use crate::sides::READING;
 
 /// The axes n, u and v of each permutation.
 const AXES: [[usize; 3]; 6] = [[0, 1, 2], [2, 0, 1], [1, 2, 0], [2, 1, 0], [0, 2, 1], [1, 0, 2]];
 
-/// As many bytes as a writer ever needs for so many quads.
-fn plenty(form: Form, quads: usize) -> usize {
-    match form {
-        Form::Obj => 7 + 138 * quads,
-        Form::Saved => 34 + 20 * quads,
-    }
-}
+/// No quad's text is longer than this.
+const MOST: usize = 138;
 
 /// A quad within the limits, for a face of that permutation, often at one of them.
-pub fn quad(random: &mut Random, permutation: i32) -> [u32; 5] {
+fn quad(random: &mut Random, permutation: i32) -> [u32; 5] {
     let [n, u, v] = AXES[permutation.rem_euclid(6) as usize];
     let mut quad = [0; 5];
     for (axis, side) in [(u, 3), (v, 4)] {
@@ -35,7 +30,7 @@ pub fn quad(random: &mut Random, permutation: i32) -> [u32; 5] {
 }
 
 /// Makes a quad that is outside the limits, or that would be for a face of other axes.
-pub fn spoil(random: &mut Random, quad: &mut [u32]) {
+fn spoil(random: &mut Random, quad: &mut [u32]) {
     let (axis, side) = (random.below(3), 3 + random.below(2));
     match random.below(8) {
         0 => quad[side] = 0,
@@ -73,7 +68,7 @@ fn miscount(random: &mut Random, counts: &mut [u64; 6]) {
 }
 
 /// A random call, mostly accepted or refused for want of room.
-pub fn call(random: &mut Random, form: Form) -> Handed {
+pub fn call(random: &mut Random) -> Obj {
     let faces = meshes::faces(random);
     let most = random.pick(&[0, 1, 1, 2, 3, 5, 9, 30]);
     let mut counts = [0; 6];
@@ -101,16 +96,16 @@ pub fn call(random: &mut Random, form: Form) -> Handed {
     if random.percent(8) {
         miscount(random, &mut counts);
     }
-    let mut call = Handed { faces, counts, quads, out: vec![] };
-    lend(random, form, &mut call);
+    let mut call = Obj { faces, counts, quads, out: vec![] };
+    lend(random, &mut call);
     call
 }
 
-/// The output: exact, one short, one long, none, a part, or as long as the writer ever needs for so many quads.
-fn lend(random: &mut Random, form: Form, call: &mut Handed) {
-    let plenty = plenty(form, call.quads.len() / 5);
+/// The output: exact, one short, one long, none, a part, or as long as any text of so many quads.
+fn lend(random: &mut Random, call: &mut Obj) {
+    let plenty = 7 + MOST * (call.quads.len() / 5);
     call.out = vec![0; plenty];
-    let exact = READING.write(form, call).answer[2] as usize;
+    let exact = READING.obj(call).answer[2] as usize;
     let length = match random.below(20) {
         0..=5 => exact,
         6..=7 => exact.saturating_sub(1),
@@ -124,9 +119,9 @@ fn lend(random: &mut Random, form: Form, call: &mut Handed) {
     call.out = (0..length).map(|_| random.next() as u8).collect();
 }
 
-/// A random greedy mesh, and where it is accepted its text or its file: the faces, the counts and the whole output of the mesher
-/// are handed on, and only a short output can be refused.
-pub fn mesh_and_write(tally: &mut Tally, random: &mut Random, form: Form) {
+/// A random greedy mesh, and where it is accepted its text: the faces, the counts and the whole output of the mesher are handed
+/// on, and only a short output can be refused.
+pub fn mesh_and_text(tally: &mut Tally, random: &mut Random) {
     let mesh: Mesh = meshes::call(random);
     if !mesh.greedy {
         return;
@@ -137,21 +132,14 @@ pub fn mesh_and_write(tally: &mut Tally, random: &mut Random, form: Form) {
     }
     let mut counts = [0; 6];
     counts.copy_from_slice(&left.answer[2..8]);
-    let mut call = Handed { faces: mesh.faces, counts, quads: left.out, out: vec![] };
-    lend(random, form, &mut call);
-    let written = write(tally, form, &call);
+    let mut call = Obj { faces: mesh.faces, counts, quads: left.out, out: vec![] };
+    lend(random, &mut call);
+    let written = tally.obj(&call);
     tally.promised("an accepted greedy mesh is written, or refused by 15", &call, &written, [0, 15].contains(&written.answer[0]));
 }
 
-fn write(tally: &mut Tally, form: Form, call: &Handed) -> Written {
-    match form {
-        Form::Obj => tally.obj(call),
-        Form::Saved => tally.save(call),
-    }
-}
-
-/// A list so long that its vertex numbers have up to seven digits, and its counts up to three bytes.
-pub fn long(tally: &mut Tally, seed: u64, form: Form) {
+/// A list so long that its vertex numbers have up to seven digits.
+pub fn long(tally: &mut Tally, seed: u64) {
     let mut random = Random::new(seed);
     let faces = crate::exhaustive::TWELVE[0];
     let counts = [24, 226, 2_250, 22_500, 200_000, 40_000];
@@ -161,11 +149,11 @@ pub fn long(tally: &mut Tally, seed: u64, form: Form) {
             quads.extend(quad(&mut random, faces[2 * group + 1]));
         }
     }
-    let plenty = plenty(form, quads.len() / 5);
-    let mut call = Handed { faces, counts, quads, out: vec![7; plenty] };
-    let exact = write(tally, form, &call).answer[2] as usize;
+    let plenty = 7 + MOST * (quads.len() / 5);
+    let mut call = Obj { faces, counts, quads, out: vec![7; plenty] };
+    let exact = tally.obj(&call).answer[2] as usize;
     for length in [exact, exact - 1] {
         call.out.truncate(length);
-        write(tally, form, &call);
+        tally.obj(&call);
     }
 }

@@ -15,33 +15,25 @@ mod obj;
 mod random;
 mod replay;
 mod rust_side;
-mod saved;
 mod sides;
 
 use compare::Tally;
 use random::Random;
-use sides::Form;
 
 struct Wish {
     seed: u64,
     calls: u64,
     deep: bool,
     brief: bool,
-    only: String,
     many: bool,
     replay: bool,
     rattle: bool,
 }
 
 fn wish() -> Result<Wish, String> {
-    let only = String::new();
-    let mut wish = Wish { seed: 1, calls: 100_000, deep: false, brief: false, only, many: false, replay: false, rattle: false };
+    let mut wish = Wish { seed: 1, calls: 100_000, deep: false, brief: false, many: false, replay: false, rattle: false };
     let mut words = std::env::args().skip(1);
     while let Some(word) = words.next() {
-        if word == "--only" {
-            wish.only = words.next().ok_or("--only needs the beginning of a part's name")?;
-            continue;
-        }
         let mut number = || words.next().and_then(|n| n.parse().ok()).ok_or(format!("{} needs a number", word));
         match word.as_str() {
             "--seed" => wish.seed = number()?,
@@ -57,11 +49,8 @@ fn wish() -> Result<Wish, String> {
     Ok(wish)
 }
 
-/// Runs one part, if it is asked for, and says what it did.
+/// Runs one part and says what it did.
 fn part(tally: &mut Tally, name: &str, run: &mut dyn FnMut(&mut Tally)) {
-    if !name.starts_with(&tally.only) {
-        return;
-    }
     let (calls, with_rust, differences) = (tally.calls, tally.with_rust, tally.differences);
     let start = std::time::Instant::now();
     run(tally);
@@ -81,7 +70,7 @@ fn main() {
         std::process::exit(2)
     });
     crash::watch();
-    let mut tally = Tally { only: wish.only.clone(), ..Tally::default() };
+    let mut tally = Tally::default();
     if wish.replay {
         replay::write(&mut tally, wish.seed, wish.rattle);
         std::process::exit(if tally.differences == 0 { 0 } else { 1 });
@@ -131,51 +120,20 @@ fn main() {
     part(&mut tally, "OBJ: random lists", &mut |t| {
         let mut random = Random::new(wish.seed);
         for _ in 0..wish.calls {
-            t.obj(&lists::call(&mut random, Form::Obj));
+            t.obj(&lists::call(&mut random));
         }
     });
     part(&mut tally, "OBJ: random greedy meshes, handed on", &mut |t| {
         let mut random = Random::new(!wish.seed);
         for _ in 0..wish.calls / 5 {
-            lists::mesh_and_write(t, &mut random, Form::Obj);
+            lists::mesh_and_text(t, &mut random);
         }
     });
     if !wish.brief {
-        part(&mut tally, "OBJ: a long list", &mut |t| lists::long(t, wish.seed, Form::Obj));
+        part(&mut tally, "OBJ: a long list", &mut |t| lists::long(t, wish.seed));
     }
-    part(&mut tally, "saved: the worked examples", &mut |t| saved::examples(t));
-    part(&mut tally, "saved: every small layout and cut", &mut |t| saved::every_layout(t));
-    part(&mut tally, "saved: every face and limit", &mut |t| saved::every_face(t));
-    part(&mut tally, "saved: every damage of one byte", &mut |t| saved::every_damage(t));
-    part(&mut tally, "saved: counts that say too much", &mut |t| saved::every_count(t));
-    part(&mut tally, "saved: refusals, every few at once", &mut |t| saved::every_refusal(t));
-    part(&mut tally, "saved: random lists", &mut |t| {
-        let mut random = Random::new(wish.seed);
-        for _ in 0..wish.calls {
-            saved::list(t, &mut random);
-        }
-    });
-    part(&mut tally, "saved: random files", &mut |t| {
-        let mut random = Random::new(!wish.seed);
-        for _ in 0..wish.calls {
-            t.read(&saved::file(&mut random));
-        }
-    });
-    part(&mut tally, "saved: random greedy meshes, handed on", &mut |t| {
-        let mut random = Random::new(!wish.seed);
-        for _ in 0..wish.calls / 5 {
-            lists::mesh_and_write(t, &mut random, Form::Saved);
-        }
-    });
-    part(&mut tally, "saved: random meshes of the Rust's text, there and back", &mut |t| {
-        let mut random = Random::new(wish.seed);
-        for _ in 0..wish.calls / 5 {
-            saved::mesh_of_rust(t, &mut random);
-        }
-    });
-    part(&mut tally, "saved: a long list", &mut |t| lists::long(t, wish.seed, Form::Saved));
     if wish.many {
-        part(&mut tally, "lists and files of 2^30 quads", &mut |t| many::many(t));
+        part(&mut tally, "OBJ: lists of 2^30 quads", &mut |t| many::many(t));
     }
     tally.print();
     println!("oracle ({}): {} calls, {} differences", sides, tally.calls, tally.differences);

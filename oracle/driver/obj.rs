@@ -1,7 +1,7 @@
 //! The OBJ writer and the decimal formatter: the worked examples of document 02's first request, every face with small quads and
 //! with quads at each limit, every length of the output, and the refusals, each at each place and every few at once.
 
-use crate::call::{Decimal, Handed, Written};
+use crate::call::{Decimal, Obj};
 use crate::compare::Tally;
 use crate::draws::SIDES;
 use crate::examples::filled;
@@ -18,19 +18,19 @@ const BEFORE: u8 = b'z';
 const ONE: [u32; 5] = [1, 1, 1, 1, 1];
 
 /// A call with so many bytes of output.
-fn call(faces: [i32; 12], counts: [u64; 6], quads: &[u32], out: usize) -> Handed {
-    Handed { faces, counts, quads: quads.to_vec(), out: vec![BEFORE; out] }
+fn call(faces: [i32; 12], counts: [u64; 6], quads: &[u32], out: usize) -> Obj {
+    Obj { faces, counts, quads: quads.to_vec(), out: vec![BEFORE; out] }
 }
 
 /// One quad in one group, and an output that its text fills exactly.
-fn alone(faces: [i32; 12], group: usize, quad: [u32; 5]) -> Handed {
+fn alone(faces: [i32; 12], group: usize, quad: [u32; 5]) -> Obj {
     let mut counts = [0; 6];
     counts[group] = 1;
     exact(call(faces, counts, &quad, 0))
 }
 
 /// The same call, of which it is known that only the output can be too short, with an output that is filled exactly.
-fn exact(mut call: Handed) -> Handed {
+fn exact(mut call: Obj) -> Obj {
     call.out = vec![BEFORE; rust_side::obj(&call).len()];
     call
 }
@@ -46,7 +46,7 @@ fn with_face(group: usize, sign: i32, permutation: i32) -> [i32; 12] {
 /// The worked examples, with their results.
 pub fn examples(tally: &mut Tally) {
     // an accepted call whose lines from `from` on are these, and which writes so many bytes
-    let text = |tally: &mut Tally, name: &str, call: &Handed, bytes: u64, from: usize, lines: &[&str]| {
+    let text = |tally: &mut Tally, name: &str, call: &Obj, bytes: u64, from: usize, lines: &[&str]| {
         let left = tally.obj(call);
         let written = String::from_utf8_lossy(&left.out[..left.answer[2] as usize]).to_string();
         let has: Vec<&str> = written.lines().skip(from).take(lines.len()).collect();
@@ -54,7 +54,7 @@ pub fn examples(tally: &mut Tally) {
         tally.expect(name, written.starts_with("o mesh\n") && written.ends_with('\n'));
         tally.expect(name, left.out[bytes as usize..].iter().all(|&b| b == BEFORE));
     };
-    let refused = |tally: &mut Tally, name: &str, call: &Handed, number: u64, place: u64| {
+    let refused = |tally: &mut Tally, name: &str, call: &Obj, number: u64, place: u64| {
         let left = tally.obj(call);
         tally.expect(name, left.answer == [number, place, 0] && left.out == call.out);
     };
@@ -146,13 +146,13 @@ pub fn every_length(tally: &mut Tally) {
     all.push(exact(call(CUBE, [0, 3, 0, 24, 0, 1], &[[99, 9, 199, 1, 1]; 28].concat(), 0)));
     for one in all {
         for length in 0..one.out.len() + 2 {
-            tally.obj(&Handed { out: vec![BEFORE; length], ..one.clone() });
+            tally.obj(&Obj { out: vec![BEFORE; length], ..one.clone() });
         }
     }
 }
 
 /// Turns an accepted call of two quads a group into one that a refusal applies to, at that face's or group's place.
-fn spoil(call: &mut Handed, refusal: u32, place: usize) {
+fn spoil(call: &mut Obj, refusal: u32, place: usize) {
     match refusal {
         17 => call.faces[2 * place + 1] = [6, -1, 7, 255, i32::MAX, i32::MIN][place],
         24 => call.counts[place] += [1, 2, u64::MAX - 2, 1 << 32, 1 << 63, u64::MAX / 5][place],
@@ -167,38 +167,28 @@ fn spoil(call: &mut Handed, refusal: u32, place: usize) {
 /// The refusals that apply to a list of twelve quads; 13 needs more than 1,073,741,823.
 const ORDER: [u32; 5] = [17, 24, 6, 12, 15];
 
-/// The OBJ writer's refusals.
+/// Every few refusals at once, each at each face or group; lists that are one number or one quad too short, and longer ones.
 pub fn every_refusal(tally: &mut Tally) {
-    every_refusal_of(tally, &|tally, call| tally.obj(call), &|call| rust_side::obj(call).len());
-}
-
-/// A writer's refusals: every few at once, each at each face or group; lists that are one number or one quad too short, and longer
-/// ones. `write` asks the writer, and `length` says how long what it writes of an accepted list is.
-pub fn every_refusal_of(tally: &mut Tally, write: &dyn Fn(&mut Tally, &Handed) -> Written, length: &dyn Fn(&Handed) -> usize) {
-    let sized = |mut call: Handed| {
-        call.out = vec![BEFORE; length(&call)];
-        call
-    };
-    let good = sized(call(CUBE, [2; 6], &[[3, 2, 1, 4, 5]; 12].concat(), 0));
+    let good = exact(call(CUBE, [2; 6], &[[3, 2, 1, 4, 5]; 12].concat(), 0));
     for chosen in 0..1 << ORDER.len() {
         for place in 0..6 {
             let mut call = good.clone();
             for (i, refusal) in ORDER.iter().enumerate().filter(|(i, _)| chosen >> i & 1 == 1) {
                 spoil(&mut call, *refusal, (place + i) % 6);
             }
-            write(tally, &call);
+            tally.obj(&call);
         }
     }
     for length in 0..80 {
         let mut call = good.clone();
         call.quads.resize(length, u32::MAX);
-        write(tally, &call);
+        tally.obj(&call);
     }
     for quad in 0..12 {
         for (number, bad) in [(0, 256), (1, u32::MAX), (2, 256), (3, 0), (4, 0), (3, u32::MAX), (4, 257)] {
             let mut call = good.clone();
             call.quads[5 * quad + number] = bad;
-            write(tally, &call);
+            tally.obj(&call);
         }
     }
     // two at the same time: the first of them is the place
@@ -208,16 +198,16 @@ pub fn every_refusal_of(tally: &mut Tally, write: &dyn Fn(&mut Tally, &Handed) -
                 let mut call = good.clone();
                 spoil(&mut call, refusal, first);
                 spoil(&mut call, other, second);
-                write(tally, &call);
+                tally.obj(&call);
             }
         }
     }
     // a bad face of a group without quads
     for group in 0..6 {
         for refusal in [17, 6] {
-            let mut call = sized(call(CUBE, [0; 6], &[], 0));
+            let mut call = call(CUBE, [0; 6], &[], 7);
             spoil(&mut call, refusal, group);
-            write(tally, &call);
+            tally.obj(&call);
         }
     }
 }

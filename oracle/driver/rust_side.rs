@@ -1,6 +1,6 @@
 //! The oracle: the crate's own text, over the stand-ins. It has no refusals, so it is asked only what is accepted.
 
-use crate::call::{Draw, Handed, Mesh};
+use crate::call::{Draw, Mesh, Obj};
 use block_mesh::ilattice::glam::IVec3;
 use block_mesh::ndshape::RuntimeShape3;
 use block_mesh::{
@@ -73,7 +73,7 @@ pub fn mesh(call: &Mesh) -> [Vec<u32>; 6] {
 }
 
 /// The OBJ text of an accepted list. The crate writes none: its corners and its indices are put into document 02's lines.
-pub fn obj(call: &Handed) -> String {
+pub fn obj(call: &Obj) -> String {
     let mut text = String::from("o mesh\n");
     let groups = faces(&call.faces).into_iter().zip(call.counts).flat_map(|(f, count)| (0..count).map(move |_| f));
     for (number, (face, q)) in groups.zip(call.quads.chunks(5)).enumerate() {

@@ -1,6 +1,6 @@
 //! The two sides that are called through C: the product, and the second reading of the documents (which is not the oracle).
 
-use crate::call::{Decimal, Draw, Drawn, File, Found, Handed, Mesh, Meshed, Spelled, Written, BEFORE};
+use crate::call::{Decimal, Draw, Drawn, Mesh, Meshed, Obj, Spelled, Written, BEFORE};
 
 type GreedyQuads = unsafe extern "C" fn(
     *const u32, *const u32, *const u32, *const i32, *const u16, usize, *mut u8, usize, *mut u32, usize, *mut u64,
@@ -12,9 +12,8 @@ type Corners = unsafe extern "C" fn(i32, u32, *const u32, *mut u32) -> u32;
 type Normal = unsafe extern "C" fn(i32, u32, *mut u32) -> u32;
 type Indices = unsafe extern "C" fn(i32, u32, u32, *mut u32) -> u32;
 type TexCoords = unsafe extern "C" fn(i32, u32, u32, bool, *const u32, *mut u32) -> u32;
-type Write = unsafe extern "C" fn(*const i32, *const u64, *const u32, usize, *mut u8, usize, *mut u64);
+type WriteObj = unsafe extern "C" fn(*const i32, *const u64, *const u32, usize, *mut u8, usize, *mut u64);
 type SpellDecimal = unsafe extern "C" fn(u32, *mut u8, usize) -> usize;
-type ReadSaved = unsafe extern "C" fn(*const u8, usize, *mut i32, *mut u32, usize, *mut u64);
 
 /// The calls of one side. Outputs of f32 numbers are handed over as words, so that their bits are seen.
 pub struct Side {
@@ -25,23 +24,14 @@ pub struct Side {
     normal: Normal,
     indices: Indices,
     tex_coords: TexCoords,
-    write_obj: Write,
+    write_obj: WriteObj,
     decimal: SpellDecimal,
-    write_saved: Write,
-    read_saved: ReadSaved,
-}
-
-/// The writers.
-#[derive(Clone, Copy, Debug)]
-pub enum Form {
-    Obj,
-    Saved,
 }
 
 macro_rules! side {
     (
         $side:ident, $greedy:ident, $unit:ident, $corner:ident, $corners:ident, $normal:ident, $indices:ident, $tex:ident,
-        $obj:ident, $decimal:ident, $write:ident, $read:ident
+        $obj:ident, $decimal:ident
     ) => {
         extern "C" {
             fn $greedy(
@@ -62,11 +52,6 @@ macro_rules! side {
                 answer: *mut u64,
             );
             fn $decimal(n: u32, scratch: *mut u8, scratch_len: usize) -> usize;
-            fn $write(
-                faces: *const i32, counts: *const u64, quads: *const u32, quads_len: usize, out: *mut u8, out_len: usize,
-                answer: *mut u64,
-            );
-            fn $read(bytes: *const u8, bytes_len: usize, faces: *mut i32, out: *mut u32, out_len: usize, answer: *mut u64);
         }
         pub static $side: Side = Side {
             greedy_quads: $greedy,
@@ -78,23 +63,19 @@ macro_rules! side {
             tex_coords: $tex,
             write_obj: $obj,
             decimal: $decimal,
-            write_saved: $write,
-            read_saved: $read,
         };
     };
 }
 
 side!(
     READING, reading_greedy_quads, reading_visible_block_faces, reading_corner, reading_corners,
-    reading_normal, reading_indices, reading_tex_coords, reading_write_obj, reading_decimal, reading_write_saved,
-    reading_read_saved
+    reading_normal, reading_indices, reading_tex_coords, reading_write_obj, reading_decimal
 );
 
 #[cfg(product)]
 side!(
     PRODUCT, spunmarrow_greedy_quads, spunmarrow_visible_block_faces, spunmarrow_corner, spunmarrow_corners,
-    spunmarrow_normal, spunmarrow_indices, spunmarrow_tex_coords, spunmarrow_write_obj, spunmarrow_decimal,
-    spunmarrow_write_saved, spunmarrow_read_saved
+    spunmarrow_normal, spunmarrow_indices, spunmarrow_tex_coords, spunmarrow_write_obj, spunmarrow_decimal
 );
 
 /// The product, where its archive is linked.
@@ -199,52 +180,25 @@ impl Side {
         Drawn { refusal, words }
     }
 
-    /// Runs a writer. The guards of the list are bad quads, so that a writer that reads them is likely to answer otherwise.
-    pub fn write(&self, form: Form, call: &Handed) -> Written {
+    /// Runs the OBJ writer. The guards of the list are bad quads, so that a writer that reads them is likely to answer otherwise.
+    pub fn obj(&self, call: &Obj) -> Written {
         let mut quads = Lent::new(&call.quads, u32::MAX);
-        let mut written = self.write_of(form, call.faces, call.counts, quads.part(), quads.len(), &call.out);
+        let mut written = self.obj_of(call.faces, call.counts, quads.part(), quads.len(), &call.out);
         written.kept &= quads.kept() && quads.all[GUARD..GUARD + call.quads.len()] == call.quads[..];
         written
     }
 
-    /// Runs a writer on a list that lies anywhere: `len` numbers from `quads` on.
-    pub fn write_of(&self, form: Form, faces: [i32; 12], counts: [u64; 6], quads: *const u32, len: usize, out: &[u8]) -> Written {
-        let write = match form {
-            Form::Obj => self.write_obj,
-            Form::Saved => self.write_saved,
-        };
+    /// Runs the OBJ writer on a list that lies anywhere: `len` numbers from `quads` on.
+    pub fn obj_of(&self, faces: [i32; 12], counts: [u64; 6], quads: *const u32, len: usize, out: &[u8]) -> Written {
         let mut out = Lent::new(out, 0x5A);
         let mut answer = Lent::new(&[u64::MAX; 3], 0x5A5A);
         let (lent_faces, lent_counts) = (faces, counts);
         let out_len = out.len();
-        unsafe { write(lent_faces.as_ptr(), lent_counts.as_ptr(), quads, len, out.part(), out_len, answer.part()) }
+        unsafe { (self.write_obj)(lent_faces.as_ptr(), lent_counts.as_ptr(), quads, len, out.part(), out_len, answer.part()) }
         let kept = out.kept() && answer.kept() && lent_faces == faces && lent_counts == counts;
         let mut numbers = [0; 3];
         numbers.copy_from_slice(&answer.after());
         Written { answer: numbers, out: out.after(), kept }
-    }
-
-    /// Runs the reader of saved meshes. The guards of the file are zeros, so that a count that is cut off goes on as one that is
-    /// likely to be taken.
-    pub fn read(&self, call: &File) -> Found {
-        let mut bytes = Lent::new(&call.bytes, 0);
-        let mut found = self.read_of(bytes.part(), bytes.len(), call.faces, &call.out);
-        found.kept &= bytes.kept() && bytes.all[GUARD..GUARD + call.bytes.len()] == call.bytes[..];
-        found
-    }
-
-    /// Runs the reader on a file that lies anywhere: `len` bytes from `bytes` on.
-    pub fn read_of(&self, bytes: *const u8, len: usize, faces: [i32; 12], out: &[u32]) -> Found {
-        let mut faces = Lent::new(&faces, 0x5A5A_5A5A);
-        let mut out = Lent::new(out, 0x5A5A_5A5A);
-        let mut answer = Lent::new(&[u64::MAX; 8], 0x5A5A);
-        let out_len = out.len();
-        unsafe { (self.read_saved)(bytes, len, faces.part(), out.part(), out_len, answer.part()) }
-        let kept = faces.kept() && out.kept() && answer.kept();
-        let (mut numbers, mut read) = ([0; 8], [0; 12]);
-        numbers.copy_from_slice(&answer.after());
-        read.copy_from_slice(&faces.after());
-        Found { answer: numbers, faces: read, out: out.after(), kept }
     }
 
     /// Runs the decimal formatter.

@@ -1,6 +1,6 @@
 /* A second reading of documents 01 and 02. It is not the oracle: the oracle is the Rust's text.
 
-   The first eleven calls are those of the C interface, with the same arguments and the same answers. The last three answer what
+   The first nine calls are those of the C interface, with the same arguments and the same answers. The last three answer what
    document 01 says of signed axes and canonical faces, which the C interface does not offer. */
 #ifndef READING_H
 #define READING_H
@@ -28,13 +28,6 @@ void reading_write_obj(const int32_t faces[12], const uint64_t counts[6], const 
                        size_t out_len, uint64_t answer[3]);
 /* how many digits stand at the start of scratch; 0: too short (15), scratch as it was */
 size_t reading_decimal(uint32_t n, uint8_t *scratch, size_t scratch_len);
-
-/* answer: as reading_write_obj */
-void reading_write_saved(const int32_t faces[12], const uint64_t counts[6], const uint32_t *quads, size_t quads_len, uint8_t *out,
-                         size_t out_len, uint64_t answer[3]);
-/* answer: [0] refusal, 0 where accepted; [1] place; [2..7] the six counts; a refusal leaves faces and out as they were */
-void reading_read_saved(const uint8_t *bytes, size_t bytes_len, int32_t faces[12], uint32_t *out, size_t out_len,
-                        uint64_t answer[8]);
 
 /* out: the axis, 0 to 2, and the sign, 1 or -1 */
 uint32_t reading_signed_axis(int32_t sign, uint32_t axis, int32_t out[2]);

@@ -6,7 +6,7 @@ use native.Mathlib.Nat.{mod-eq_of_lt, not-suc-le-zero}
 use native.Mathlib.Numerals.{add-one}
 use native.Mathlib.Omega.{arith}
 use lib.Dec.{leb}
-use lib.ListN.{length, take, drop, set, length-set, length-drop, drop_of_length-le, take_append_drop}
+use lib.ListN.{length, take, drop, set, length-set, length-drop, drop_of_length-le, take-append-drop}
 use lib.Seq.{length-take-le, take_all, drop-cons, get_or-set_same, drop-set-lt, take-append_seam, drop-append_seam}
 use borrow.Author.Tests.{leb-true, leb-false, le-leb, lt-leb}
 use Rattle.geometry.proofs.Refusals.{split}
@@ -137,4 +137,4 @@ module _ (n at : ℕ) (out : List ℕ) (h : at + length (digits n) ≤ length ou
       let is : last ≡ overwritten (digits n) (drop at out) =
       spelt_scratch e ∙ rw (part_from, take_all (length out - at) (drop at out) lent) in
       rw (is, drop_of_length-le (drop at out) lent, append-nil (overwritten (digits n) (drop at out)))
-      (sym (rw (take_append_drop at out, before) at (set_all_after (digits n) (take at out) (drop at out) fitting)))
+      (sym (rw (take-append-drop at out, before) at (set_all_after (digits n) (take at out) (drop at out) fitting)))

@@ -4,7 +4,7 @@ use mathlib.Core.List.{List, [], ◌∷◌, ◌++◌, map}
 use mathlib.Core.Path.{◌≡◌, refl, ◌∙◌, ap}
 use Prim.Native.Nat.{ℕ}
 use native.Mathlib.Omega.{arith}
-use lib.ListN.{length, take, drop, take_append_drop}
+use lib.ListN.{length, take, drop, take-append-drop}
 use contract.Lifetimes
 use borrow.Fn.World
 use borrow.Fn.Kinds
@@ -66,7 +66,7 @@ module _ (inner : Extent) (v : Field) where
   part_consistent f m p =
       let quads : List UnorientedQuad = (greedy_group inner v f).quads in
       let sum = how_many_append (λ (q : UnorientedQuad). contains f q p) (take m quads) (drop m quads) in
-      let whole : how_many (λ (q : UnorientedQuad). contains f q p) (take m quads ++ drop m quads) ≡ bit (inside inner p && visible f v p) = rw (take_append_drop m quads) (greedy_cover f v inner p) in
+      let whole : how_many (λ (q : UnorientedQuad). contains f q p) (take m quads ++ drop m quads) ≡ bit (inside inner p && visible f v p) = rw (take-append-drop m quads) (greedy_cover f v inner p) in
       omega arith
 
 module _ (voxels : List ℕ) (shape min max : Point) (faces : List OrientedBlockFace) (bytes was : List ℕ) (r : GreedyAnswer) (bytes' out : List ℕ)

@@ -4,7 +4,7 @@ use mathlib.Core.List.{List}
 use mathlib.Core.Logic.{⊎_elim}
 use mathlib.Core.Path.{◌≡◌, refl, sym, ◌∙◌, ap}
 use Prim.Native.Nat.{ℕ, zero, suc, ◌+◌, ◌-◌, ◌*◌, ◌≤◌, ◌<◌}
-use native.Mathlib.Nat.{add-zero, zero-mul, suc_mul, add_mul, eq-or-lt_of_le}
+use native.Mathlib.Nat.{add-zero, zero-mul, suc_mul, add-mul, eq-or-lt_of_le}
 use native.Mathlib.Omega.{arith}
 use Rattle.geometry.specs.Point.{Point}
 use Rattle.voxels.proofs.Loops.{Underway, underway_start, underway_on}
@@ -48,7 +48,7 @@ pub rest_ready : {c : FaceScan} {spot : ℕ → Point} {vn mn d a i n k j : ℕ}
 rest_ready {c = c} {d = d} {i = i} {n = n} {k = k} {j = j} row l h =
     let left : k + (n - k) ≡ n = omega arith in
     let end : i + (k + (n - k)) * d ≡ i + n * d = rw left in
-    let place : (m : ℕ) → i + (k + m) * d ≡ j + m * d = λ m. omega (arith, l.place, add_mul k m d) in
+    let place : (m : ℕ) → i + (k + m) * d ≡ j + m * d = λ m. omega (arith, l.place, add-mul k m d) in
     record { each = λ m less. rw (place m) at (spot_touches c _ _ (row.each (k + m) (omega arith))); last = omega (arith, row.last, place (n - k)) }
 
 -- A scan that passes so many of them has made as many tests more, and nothing else.

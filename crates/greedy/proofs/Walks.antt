@@ -3,7 +3,7 @@ use mathlib.Core.Bool.{Bool, true, false}
 use mathlib.Core.List.{List}
 use mathlib.Core.Path.{◌≡◌, sym, ◌∙◌, ap}
 use Prim.Native.Nat.{ℕ, zero, ◌+◌, ◌-◌, ◌*◌, ◌≤◌, ◌<◌}
-use native.Mathlib.Nat.{add-zero, zero-add, add_assoc, sub-zero, zero-mul, one-mul, add_mul, mul-le-mul_right}
+use native.Mathlib.Nat.{add-zero, zero-add, add_assoc, sub-zero, zero-mul, one-mul, add-mul, mul-le-mul_right}
 use native.Mathlib.Omega.{arith}
 use lib.Dec.{eqb}
 use lib.ListN.{get_or}
@@ -110,7 +110,7 @@ module _ (vn mn off i du wide dv high : ℕ) (ready : QuadReady vn mn off i du w
   -- and so is each after it, in part.
   pub next_row : (w k j : ℕ) → w ≤ wide → k < high - 1 → Underway dv (i + dv) (high - 1) k j → WalkReady vn mn off j du w
   next_row w k j le h l =
-      let at_j : i + (k + 1) * dv ≡ j = omega (arith, l.place, add_mul k 1 dv, one-mul dv) in
+      let at_j : i + (k + 1) * dv ≡ j = omega (arith, l.place, add-mul k 1 dv, one-mul dv) in
       row_less w wide le (rw at_j at (ready.each (k + 1) (omega arith)))
 
   -- The index at the end of the rows fits.
@@ -118,7 +118,7 @@ module _ (vn mn off i du wide dv high : ℕ) (ready : QuadReady vn mn off i du w
   rows_last = omega (arith, ready.last, whole (high - 1) dv high (omega (arith, ready.high_some)))
     where
       whole : (m d n : ℕ) → n ≡ m + 1 → i + d + m * d ≡ i + n * d
-      whole m d n e = omega (arith, add_mul m 1 d, one-mul d, ap (λ (k : ℕ). k * d) e)
+      whole m d n e = omega (arith, add-mul m 1 d, one-mul d, ap (λ (k : ℕ). k * d) e)
 
 -- The rectangle from its first row and the rows after it.
 pub quad_from_lem : (vs marks : List ℕ) (off du dv wide high i : ℕ) (w : Walked) (k t : ℕ)

@@ -57,12 +57,6 @@ unfolding joined
 map_joined f [] = refl
 map_joined f (l ∷ ls) = map_append f l (joined ls) ∙ ap (λ (r : List _). map f l ++ r) (map_joined f ls)
 
--- What is gathered from two lists, one after the other.
-pub joined_append : {A B : Type 0} (g : A → List B) (l m : List A) → joined (map g (l ++ m)) ≡ joined (map g l) ++ joined (map g m)
-unfolding joined
-joined_append g [] m = refl
-joined_append g (a ∷ l) m = rw (joined_append g l m) (sym (append_assoc (g a) (joined (map g l)) (joined (map g m))))
-
 -- ---- what was laid
 
 -- Items of so many numbers, each of which is read back from its numbers, whatever follows them.
@@ -71,6 +65,11 @@ module _ {A B : Type 0} (numbers : ℕ) (numbers_of : A → List ℕ) (sized : (
   -- The numbers of items, end to end.
   abbrev all : List A → List ℕ
   all l = joined (map numbers_of l)
+
+  all_append : (l m : List A) → all (l ++ m) ≡ all l ++ all m
+  unfolding joined
+  all_append [] m = refl
+  all_append (a ∷ l) m = rw (all_append l m) (sym (append_assoc (numbers_of a) (all l) (all m)))
 
   all_length : (l : List A) → length (all l) ≡ length l * numbers
   unfolding joined
@@ -90,7 +89,7 @@ module _ {A B : Type 0} (numbers : ℕ) (numbers_of : A → List ℕ) (sized : (
   unfolding groups_in joined
   groups_back [] rest = refl
   groups_back (l ∷ ls) rest =
-      let cut : all (l ++ joined ls) ++ rest ≡ all l ++ (all (joined ls) ++ rest) = rw (joined_append numbers_of l (joined ls)) (append_assoc (all l) (all (joined ls)) rest) in
+      let cut : all (l ++ joined ls) ++ rest ≡ all l ++ (all (joined ls) ++ rest) = rw (all_append l (joined ls)) (append_assoc (all l) (all (joined ls)) rest) in
       rw (cut, items_back l (all (joined ls) ++ rest), drop_at (all l) (all (joined ls) ++ rest) (length l * numbers) (all_length l), groups_back ls rest)
 
   -- Of a call whose entry passed, its answer and its output at exit.

@@ -2,7 +2,7 @@
 use mathlib.Core.List.{List, [], ◌∷◌, ◌++◌, map, append_assoc}
 use mathlib.Core.Path.{◌≡◌, refl, sym, ◌∙◌, ap}
 use Prim.Native.Nat.{ℕ, zero, suc, ◌+◌, ◌*◌, ◌/◌, ◌≤◌, ◌<◌}
-use native.Mathlib.Nat.{div-mul-le_self, mul-le-mul_right, add-zero, zero-add, suc-add, add_mul, one-mul, zero-mul, suc_mul, not-suc-le-zero, mul-add-div_right, div-eq_of_lt, div-eq-sub-div, le-div_iff_mul-le}
+use native.Mathlib.Nat.{div-mul-le_self, mul-le-mul_right, add-zero, zero-add, suc-add, add-mul, one-mul, zero-mul, suc_mul, not-suc-le-zero, mul-add-div_right, div-eq_of_lt, div-eq-sub-div, le-div_iff_mul-le}
 use native.Mathlib.Omega.{arith}
 use lib.Dec.{leb, ltb}
 use lib.ListN.{length, get_or, length_append, length-drop, take, drop, set, length-set}
@@ -166,7 +166,7 @@ module _ {A : Type 0} (numbers : ℕ) (numbers_of : A → List ℕ) (some : 0 < 
       let room = leb-true numbers (length rest) t in
       let left : length rest / numbers ≡ suc (length (drop numbers rest) / numbers) =
       div-eq-sub-div some room ∙ rw (length-drop numbers rest) (omega arith) in
-      let written : length (done ++ numbers_of a) ≡ (n + 1) * numbers = omega (arith, length_append done (numbers_of a), sized a, add_mul n 1 numbers, one-mul numbers) in
+      let written : length (done ++ numbers_of a) ≡ (n + 1) * numbers = omega (arith, length_append done (numbers_of a), sized a, add-mul n 1 numbers, one-mul numbers) in
       rw (next_written done rest n a h room, left)
       (all_written l (done ++ numbers_of a) (drop numbers rest) (n + 1) written
       ∙ ap (λ (o : List ℕ). output o (n + 1 + length l)) (rw (sized a) at (over_over done (numbers_of a) (joined (map numbers_of (take (length (drop numbers rest) / numbers) l))) rest))

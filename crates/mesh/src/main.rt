@@ -1,14 +1,13 @@
 // Prints the quads of a block of voxels.
 //
-//     mesh [--unit | --obj | --save] [--box X0 Y0 Z0 X1 Y1 Z1] X Y Z < BLOCK
+//     mesh [--unit | --obj] [--box X0 Y0 Z0 X1 Y1 Z1] X Y Z < BLOCK
 //
 // BLOCK has the X.Y.Z voxels of the block, x fastest, then y, then z, two bytes each, the low byte
 // first. The block is meshed on the six faces of a cube, and a line is printed for each quad: the
 // face and the quad's minimum x, y and z, width and height. The last line has the number of quads of
 // each face and the tests. `--unit` meshes unit quads, which have a minimum alone and take no tests,
-// `--obj` prints the mesh as Wavefront OBJ text instead, `--save` writes it as the bytes of a saved mesh,
-// and `--box` meshes a part of the block, both corners included. What is wrong is said on standard
-// error, and then nothing is printed.
+// `--obj` prints the mesh as Wavefront OBJ text instead, and `--box` meshes a part of the block, both
+// corners included. What is wrong is said on standard error, and then nothing is printed.
 mod block;
 mod say;
 mod show;
@@ -22,7 +21,6 @@ use greedy::{GreedyAnswer, QUAD_NUMBERS};
 use listing::MeshAnswer;
 use voxels::bounds;
 use words::Job;
-use writing::written::WriteAnswer;
 
 // The six faces of a cube, in the order of `show::face`.
 fn cube() -> [OrientedBlockFace; 6] {
@@ -48,30 +46,21 @@ fn listed(mesh: MeshAnswer, out: &[u32], numbers: usize) -> bool {
     true
 }
 
-// Puts greedy quads into the output, as a saved mesh or as OBJ text.
-fn put(save: bool, counts: [u64; 6], quads: &[u32], out: &mut [u8]) -> WriteAnswer {
-    if save {
-        return saved::write_saved(cube(), counts, quads, out);
-    }
-    obj::write_obj(cube(), counts, quads, out)
-}
-
-// Writes the greedy quads that were meshed, as a saved mesh or as OBJ text, of at most 3,000,000 bytes.
-// Where the block or the text was refused it says so instead, and so it does where not all could be
-// written.
-fn write(save: bool, mesh: MeshAnswer, quads: &[u32]) {
+// Prints the greedy quads that were meshed as OBJ text, of at most 3,000,000 bytes. Where the block or
+// the text was refused it says so instead, and so it does where the text could not be written.
+fn write_obj(mesh: MeshAnswer, quads: &[u32]) {
     if say::refused(mesh.refusal, mesh.place) {
         return;
     }
-    let mut room = space::file();
+    let mut room = space::text();
     let out: &mut [u8] = &mut room;
     let counts = mesh.counts;
-    let answer = put(save, counts, quads, out);
+    let answer = obj::write_obj(cube(), counts, quads, out);
     if say::refused(answer.refusal, answer.place) {
         return;
     }
     if !show::write_part(out, answer.written as usize) {
-        say::unwritten(save);
+        say::text(b"mesh: the OBJ text could not be written, or not all of it\n");
     }
 }
 
@@ -104,12 +93,8 @@ fn mesh_greedy(job: Job, voxels: &[u16]) {
     let out: &mut [u32] = &mut room;
     let answer = greedy_quads(job, voxels, out);
     let mesh = answer.mesh;
-    if job.save {
-        write(true, mesh, out);
-        return;
-    }
     if job.obj {
-        write(false, mesh, out);
+        write_obj(mesh, out);
         return;
     }
     if listed(mesh, out, QUAD_NUMBERS) {

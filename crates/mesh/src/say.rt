@@ -48,15 +48,6 @@ pub fn refused(number: u32, place: u64) -> bool {
     true
 }
 
-// That not all of a mesh could be written, saved or as OBJ text.
-pub fn unwritten(save: bool) {
-    if save {
-        text(b"mesh: the saved mesh could not be written, or not all of it\n");
-        return;
-    }
-    text(b"mesh: the OBJ text could not be written, or not all of it\n");
-}
-
 fn long_text() {
     text(b"the OBJ text is longer than the 3000000 bytes that mesh holds; ");
     text(b"host/obj_file.c writes blocks of any size\n");

@@ -37,8 +37,8 @@ pub fn greedy_quads() -> [u32; 655360]
     [0; 655360]
 }
 
-// For a mesh as OBJ text, or saved: the quads that this command lists take 2,621,474 bytes at most.
-pub fn file() -> [u8; 3000000]
+// For the text of a mesh.
+pub fn text() -> [u8; 3000000]
     ensures { 3000000 ≡ length result }
 {
     [0; 3000000]

@@ -11,7 +11,6 @@ pub struct Job {
     pub wrong: bool,
     pub unit: bool,
     pub obj: bool,
-    pub save: bool,
     pub shape: UVec3,
     pub min: UVec3,
     pub max: UVec3,
@@ -22,7 +21,6 @@ pub struct Job {
 enum Word {
     Unit,
     Obj,
-    Save,
     Box,
     Number(u32),
     Other,
@@ -34,7 +32,6 @@ struct Words {
     wrong: bool,
     unit: bool,
     obj: bool,
-    save: bool,
     // How many numbers of the shape there were.
     shape: usize,
     // Whether there was a box, and how many of its numbers there were.
@@ -85,9 +82,6 @@ fn kind(text: &[u8]) -> Word {
     }
     if check::same(text, b"--obj") {
         return Word::Obj;
-    }
-    if check::same(text, b"--save") {
-        return Word::Save;
     }
     if check::same(text, b"--box") {
         return Word::Box;
@@ -158,17 +152,13 @@ fn take(i: usize, mut w: Words, numbers: &mut [u32; 9]) -> Words {
             w.obj = true;
             w
         }
-        Word::Save => {
-            w.save = true;
-            w
-        }
         Word::Box => take_box(i, w, &text[..n]),
         Word::Number(value) => take_number(i, w, value, &text[..n], numbers),
         Word::Other => wrong(
             w,
             i,
             &text[..n],
-            b"', is neither --unit, --obj, --save, --box nor a number from 0 to 4294967295\n",
+            b"', is neither --unit, --obj, --box nor a number from 0 to 4294967295\n",
         ),
     }
 }
@@ -180,7 +170,6 @@ fn take_all(numbers: &mut [u32; 9]) -> Words {
         wrong: false,
         unit: false,
         obj: false,
-        save: false,
         shape: 0,
         boxed: false,
         corners: 0,
@@ -219,34 +208,16 @@ fn too_few(w: Words) -> bool {
     false
 }
 
-// Whether there are two words that do not go together, which is said.
-fn apart(unit: bool, obj: bool, save: bool) -> bool {
-    if unit {
-        if obj {
-            say::text(b"mesh: --obj writes greedy quads, and does not go with --unit\n");
-            return true;
-        }
-        if save {
-            say::text(b"mesh: --save writes greedy quads, and does not go with --unit\n");
-            return true;
-        }
-    }
-    if save {
-        if obj {
-            say::text(b"mesh: --save writes a saved mesh, and does not go with --obj\n");
-            return true;
-        }
-    }
-    false
-}
-
 // Whether the words are wrong, by themselves or together, which is said.
 fn unfit(w: Words) -> bool {
     if w.wrong {
         return true;
     }
-    if apart(w.unit, w.obj, w.save) {
-        return true;
+    if w.unit {
+        if w.obj {
+            say::text(b"mesh: --obj writes greedy quads, and does not go with --unit\n");
+            return true;
+        }
     }
     too_few(w)
 }
@@ -275,7 +246,6 @@ pub fn read() -> Job {
         wrong: unfit(w),
         unit: w.unit,
         obj: w.obj,
-        save: w.save,
         shape: shape,
         min: min,
         max: max,

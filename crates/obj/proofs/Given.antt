@@ -12,7 +12,7 @@ use Rattle.geometry.specs.Corners.{corners, quad_corners}
 use Rattle.geometry.specs.Vertices.{vertex, quad_indices}
 use Rattle.writing.specs.Handed.{most_quads}
 use Rattle.obj.specs.Text.{indices_at}
-use Rattle.obj.specs.Pieces.{on, Drawable}
+use Rattle.obj.specs.Page.{on, Drawable}
 use Rattle.obj.proofs.Quads.{quad_given}
 
 -- The value of an answer that accepts.

@@ -3,7 +3,7 @@ use mathlib.Core.Bool.{true}
 use mathlib.Core.List.{List, [], ◌∷◌, ◌++◌}
 use mathlib.Core.Path.{◌≡◌, sym, ◌∙◌, ap}
 use Prim.Native.Nat.{ℕ, zero, suc, ◌+◌, ◌-◌, ◌*◌, ◌≤◌, ◌<◌}
-use native.Mathlib.Nat.{not-suc-le-zero, add_mul}
+use native.Mathlib.Nat.{not-suc-le-zero, add-mul}
 use native.Mathlib.Omega.{arith}
 use lib.ListN.{length, get_or, take, drop, length_append}
 use lib.IntN.{pos}
@@ -23,7 +23,7 @@ use Rattle.writing.proofs.Rest.{InGroup, in_start, in_on, quad_held, quad_cut, q
 use Rattle.writing.proofs.Ordered.{order_passed}
 use Rattle.obj.specs.Text.{quad_text, first_line, text}
 use Rattle.obj.specs.Obj.{obj_text}
-use Rattle.obj.specs.Pieces.{on, Drawable, GroupReady, group_text}
+use Rattle.obj.specs.Page.{on, Drawable, GroupReady, group_text}
 use Rattle.obj.proofs.Lengths.{quads_at_most}
 
 -- Where the loop stands, and that the quads that are left are within the limits.
@@ -136,7 +136,7 @@ module _ {list : List ℕ} {faces : List OrientedBlockFace} {counts : List ℕ} 
         let n : ℕ = get_or counts k 0 in
         let f : OrientedBlockFace = get_or faces k d in
         let next = rw (mesh_next quad_numbers list (first * quad_numbers) k faces counts d (omega (arith, m.walk.faces_six)) (omega (arith, m.walk.counts_six))) at m.within in
-        let after : first * quad_numbers + n * quad_numbers ≡ (first + n) * quad_numbers = omega (arith, add_mul first n quad_numbers) in
+        let after : first * quad_numbers + n * quad_numbers ≡ (first + n) * quad_numbers = omega (arith, add-mul first n quad_numbers) in
         record { walk = walking_on m.walk h; within = rw after at (each_right WithinQuad (quads_left quad_numbers list f (first * quad_numbers) n) _ next) }
 
     -- The sum of the counts so far fits, since all of them are few.

@@ -1,4 +1,8 @@
 -- Laws, and what is shown of the contracts themselves. A function's own proof stands in the folder named after it.
+-- Of bytes put into an output.
+pub mod Page
+-- Of lists end to end.
+pub mod Joined
 -- Of how long a quad's lines are.
 pub mod Measured
 -- Of a quad's lines, and what geometry answers for it.

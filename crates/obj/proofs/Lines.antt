@@ -12,7 +12,7 @@ use Rattle.geometry.specs.Lists.{Each}
 use Rattle.listing.specs.Listing.{joined}
 use Rattle.writing.specs.Handed.{most_quads}
 use Rattle.obj.specs.Text.{bytes, corner_line, triangle_line, first_triangle, second_triangle, indices_at, corner_lines, triangle_lines, bytes_of}
-use Rattle.obj.specs.Pieces.{on}
+use Rattle.obj.specs.Page.{on}
 use Rattle.obj.proofs.Quads.{faces_refer}
 
 -- ---- corners

@@ -21,11 +21,11 @@ use Rattle.geometry.specs.Vertices.{indices}
 use Rattle.geometry.proofs.Frame.{frame}
 use Rattle.geometry.proofs.Corners.{corner_n, corner_u, corner_v}
 use Rattle.listing.specs.Listing.{joined}
-use Rattle.listing.proofs.Cut.{joined_append}
 use Rattle.digits.specs.Decimal.{digits}
 use Rattle.writing.specs.Handed.{OrientedQuad}
 use Rattle.obj.specs.Text.{space, line_feed, f, Line, spaced, bytes, corner_line, triangle_line, first_triangle, second_triangle, corner_lines, triangle_lines, bytes_of, quad_text}
-use Rattle.obj.specs.Pieces.{ended, line_of, point_places, triangles_long, on}
+use Rattle.obj.specs.Page.{ended, line_of, point_places, triangles_long, on}
+use Rattle.obj.proofs.Joined.{joined_append}
 
 -- ---- a line
 

@@ -5,7 +5,7 @@ use contract.Lifetimes
 use borrow.Fn.World
 use borrow.Fn.Kinds
 use denote.Triple.Clauses
-use Rattle.writing.proofs.Outcome.{parts}
+use Rattle.obj.proofs.Outcome.{parts}
 use Rattle.obj.specs.contracts.write_obj
 use Rattle.obj.proofs.write_obj.Kinds as write-obj-kinds
 use Rattle.obj.proofs.write_obj.Reads as write-obj

@@ -1,15 +1,16 @@
 -- What is shown of a text and of a call beside the bytes. The proofs stand in proofs/Quads.antt, Lengths.antt, ReadBack.antt and Outcome.antt.
-use Rattle.std.specs.Prelude.{List, ◌++◌, map, ◌≡◌, ℕ, ◌+◌, ◌*◌, ◌≤◌, length, take}
+use Rattle.std.specs.Prelude.{List, ◌++◌, map, ◌≡◌, ℕ, ◌+◌, ◌*◌, ◌≤◌, ◌<◌, length, take, drop}
 use Rattle.geometry.specs.declared.face.OrientedBlockFace.{OrientedBlockFace}
 use Rattle.geometry.specs.Refusal.{accepted}
 use Rattle.geometry.specs.Corners.{corners, quad_corners}
 use Rattle.geometry.specs.Vertices.{vertex, quad_indices}
 use Rattle.geometry.specs.Lists.{Each}
-use Rattle.listing.specs.Listing.{joined}
+use Rattle.listing.specs.Listing.{joined, overwritten}
 use Rattle.greedy.specs.Greedy.{quad_numbers}
 use Rattle.writing.specs.declared.written.WriteAnswer.{WriteAnswer}
-use Rattle.writing.specs.Handed.{OrientedQuad, numbered, handed, total, listed_checks}
-use Rattle.writing.specs.Statements.{WriterLeaves}
+use Rattle.writing.specs.Handed.{OrientedQuad, numbered, handed, total}
+use Rattle.writing.specs.Written.{refused_answer, accepted_answer}
+use Rattle.writing.specs.Statements.{ListedPasses}
 use Rattle.obj.specs.Text.{Line, four_corners, coordinates, indices_at, first_triangle, second_triangle, triangle_lines}
 use Rattle.obj.specs.Obj.{obj_text}
 use Rattle.obj.specs.Reader.{Meaning, meaning}
@@ -53,9 +54,22 @@ said qs = record { corners = joined (map corner_numbers qs); triangles = numbere
 
 -- Of any call, by its answer and its output at exit (`write_holds`):
 pub record WriteHolds (faces : List OrientedBlockFace) (counts list out : List ℕ) (r : WriteAnswer) (last : List ℕ) : Type 0 where
-  -- it leaves what every writer does, with the text for its bytes and 24, 6, 12 and 13 for its checks;
-  pub leaves : WriterLeaves (listed_checks faces counts list) (obj_text faces counts list) out r last
-  -- where it answers 0 what it wrote reads back as the mesh that was handed in;
+  -- where it answers 0 the text stands at the output's start, and its bytes are the answer;
+  pub start : r.refusal ≡ 0 → take r.written last ≡ obj_text faces counts list
+  pub bytes : r.refusal ≡ 0 → r.written ≡ length (obj_text faces counts list)
+  -- it reads back as the mesh that was handed in;
   pub reads : r.refusal ≡ 0 → meaning (take r.written last) ≡ said (handed quad_numbers faces counts list)
-  -- and 15 is never given with room for the longest text that so many quads can have, whatever they are.
+  -- "what isn't written stays", always;
+  pub stays : drop r.written last ≡ drop r.written out
+  -- where it answers anything else nothing is written;
+  pub untouched : 1 ≤ r.refusal → (r.written ≡ 0) × (last ≡ out)
+  -- 15 is given where nothing else is refused and the output is shorter than the text, and only there;
+  pub short : r.refusal ≡ 15 → ListedPasses faces counts list × (length out < length (obj_text faces counts list))
+  pub given : ListedPasses faces counts list → length out < length (obj_text faces counts list) → r ≡ refused_answer 15 0
+  -- and so never with room for the longest text that so many quads can have, whatever they are.
   pub room : length faces ≡ length counts → most_bytes (total counts) ≤ length out → r.refusal ≡ 15 → ⊥
+
+-- Of a call on a mesh that passes 24, 6, 12 and 13 (`passed_writes`), as every mesh does that a greedy call which answers 0 leaves (`greedy_writes`): it writes the text, or it is refused by 15 alone.
+pub record Writes (faces : List OrientedBlockFace) (counts list out : List ℕ) (r : WriteAnswer) (last : List ℕ) : Type 0 where
+  pub enough : length (obj_text faces counts list) ≤ length out → (r ≡ accepted_answer (length (obj_text faces counts list))) × (last ≡ overwritten (obj_text faces counts list) out)
+  pub short : length out < length (obj_text faces counts list) → (r ≡ refused_answer 15 0) × (last ≡ out)

@@ -6,7 +6,7 @@ ghost use Rattle.greedy.specs.Greedy.{quad_numbers};
 ghost use Rattle.writing.specs.Handed.{total, most_quads, listed_checks};
 ghost use Rattle.obj.specs.Text.{corner_lines, bytes_of, quad_text};
 ghost use Rattle.obj.specs.Obj.{obj_text};
-ghost use Rattle.obj.specs.Pieces.{on, point_places, triangles_long, Drawable, GroupReady, group_text};
+ghost use Rattle.obj.specs.Page.{on, point_places, triangles_long, Drawable, GroupReady, group_text};
 
 use geometry::face::{CornersAnswer, OrientedBlockFace};
 use geometry::quad::UnorientedQuad;

@@ -4,11 +4,10 @@ ghost use Rattle.std.specs.Prelude.{◌∷◌, [], ◌≡◌, ◌*◌, ◌+◌, 
 ghost use Rattle.geometry.specs.Refusal.{accepted, checked};
 ghost use Rattle.greedy.specs.Greedy.{quad_numbers};
 ghost use Rattle.writing.specs.Handed.{most_quads, listed_checks};
-ghost use Rattle.writing.specs.Page.{Wrote, Room};
 ghost use Rattle.obj.specs.Text as spec;
 ghost use Rattle.obj.specs.Text.{corner_line, triangle_line, corner_lines, triangle_lines, bytes_of, quad_text};
 ghost use Rattle.obj.specs.Obj.{obj_text};
-ghost use Rattle.obj.specs.Pieces.{ended, line_of, on, Drawable, GroupReady, group_text};
+ghost use Rattle.obj.specs.Page.{Wrote, Room, ended, line_of, on, Drawable, GroupReady, group_text};
 
 use geometry::face::{CornersAnswer, IndicesAnswer, OrientedBlockFace, VertexIndex};
 use geometry::quad::UnorientedQuad;

@@ -2,7 +2,7 @@
 use mathlib.Core.List.{List}
 use mathlib.Core.Path.{◌≡◌}
 use Prim.Native.Nat.{ℕ, zero, suc, ◌+◌, ◌*◌, ◌≤◌, ◌<◌}
-use native.Mathlib.Nat.{add-zero, add_mul, one-mul, zero-mul}
+use native.Mathlib.Nat.{add-zero, add-mul, one-mul, zero-mul}
 use native.Mathlib.Omega.{arith}
 use lib.ListN.{get_or}
 use Rattle.geometry.specs.declared.axis.Axis.TheVariants.{X, Y, Z}
@@ -58,4 +58,4 @@ module _ (shape : Point) (lent : ℕ) (min max : Point) (h : Held shape lent min
   gap_good j k hj hk two =
       each_of_two (λ (m : ℕ). class (get_or vs (start + k * stride shape Z + j * stride shape Y + wide_of inner + m) 0) ≤ 2)
       (rw add-zero (sound_at (wide_of inner) j k (omega arith) (omega arith) (omega arith)))
-      (sound_before (j + 1) k (omega arith) (omega arith) _ (omega (arith, two, add_mul j 1 (stride shape Y), one-mul (stride shape Y))))
+      (sound_before (j + 1) k (omega arith) (omega arith) _ (omega (arith, two, add-mul j 1 (stride shape Y), one-mul (stride shape Y))))

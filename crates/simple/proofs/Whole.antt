@@ -76,8 +76,8 @@ module _ {vs : List ℕ} {shape : Point} {inner : Extent} {faces : List Oriented
   all_ready f h = rw m.through (ready_at f h).ready
 
   -- and each face lists its group, of no more quads than a shape has voxels.
-  group_at_lem : (f : ℕ) → f < 6 → quads_of f ≡ unit_group inner (field shape vs) (face_at f)
-  group_at_lem f h = rw m.through (sym (ready_at f h).group)
+  group_at : (f : ℕ) → f < 6 → quads_of f ≡ unit_group inner (field shape vs) (face_at f)
+  group_at f h = rw m.through (sym (ready_at f h).group)
 
   few : slices.deep * slices.stride.0 ≤ most_voxels
   few = rw m.through (few_in_slices m.can)
@@ -108,7 +108,7 @@ module _ {vs : List ℕ} {shape : Point} {inner : Extent} {faces : List Oriented
         ext_get_or 0 counts _ (counted.all ∙ sym (length_map (map group faces) length ∙ long))
         (λ f h.
         let below : f < 6 = omega (arith, counted.all) in
-        count_at f below ∙ sym (shown f) ∙ ap length (group_at_lem f below)
+        count_at f below ∙ sym (shown f) ∙ ap length (group_at f below)
         ∙ sym (lengths_at group faces f (omega (arith, m.six))))
 
     -- none of them is too large,
@@ -118,7 +118,7 @@ module _ {vs : List ℕ} {shape : Point} {inner : Extent} {faces : List Oriented
     -- and each run begins where the one before it ends.
     start_after : (f : ℕ) → f < length faces → start_of counts (suc f) ≡ start_of counts f + length (unit_group inner (field shape vs) (face_at f))
     unfolding start_of
-    start_after f h = omega (arith, m.six, count_at f (omega (arith, m.six)), shown f, ap length (group_at_lem f (omega (arith, m.six))))
+    start_after f h = omega (arith, m.six, count_at f (omega (arith, m.six)), shown f, ap length (group_at f (omega (arith, m.six))))
 
     start_small : (f : ℕ) → f ≤ 6 → start_of counts f ≤ f * most_voxels
     unfolding start_of
@@ -130,7 +130,7 @@ module _ {vs : List ℕ} {shape : Point} {inner : Extent} {faces : List Oriented
       runs_apart : Apart cursors quads_of
       unfolding start_of
       runs_apart =
-          joined_apart (unit_group inner (field shape vs)) faces no_face (start_of counts) refl start_after cursors quads_of m.six starts.each (λ f h. sym (group_at_lem f h))
+          joined_apart (unit_group inner (field shape vs)) faces no_face (start_of counts) refl start_after cursors quads_of m.six starts.each (λ f h. sym (group_at f h))
 
       cursors_room : Room cursors (slices.deep * slices.stride.0)
       cursors_room = record { all = starts.all; each = λ f h. omega (arith, starts.each f h, start_small f (omega arith), few) }
@@ -151,7 +151,7 @@ module _ {vs : List ℕ} {shape : Point} {inner : Extent} {faces : List Oriented
       unfolding start_of unit_groups
       groups_made listed = record {
         is = ap (output _) starts.last
-            ∙ listed_joined (unit_group inner (field shape vs)) faces no_face (start_of counts) refl start_after cursors quads_of m.six starts.each (λ f h. sym (group_at_lem f h)) listed;
+            ∙ listed_joined (unit_group inner (field shape vs)) faces no_face (start_of counts) refl start_after cursors quads_of m.six starts.each (λ f h. sym (group_at f h)) listed;
         each = counts_are;
       }
 

@@ -14,11 +14,12 @@ use Rattle.greedy.specs.Greedy as greedy
 use Rattle.greedy.specs.Greedy.{greedy_quads}
 use Rattle.writing.specs.declared.written.WriteAnswer.{WriteAnswer}
 use Rattle.writing.specs.Written as written
-use Rattle.writing.specs.Written.{WriteOutcome, refused_answer}
+use Rattle.writing.specs.Written.{refused_answer}
+use Rattle.obj.specs.Obj.{write_obj}
 use Rattle.spunmarrow.specs.Numbers.{point_of}
 use Rattle.spunmarrow.specs.Faces.{bad_numbers, faces_of}
 use Rattle.spunmarrow.specs.Mesh.{nine, nine_refused, unit_left, unit_call, greedy_left, greedy_call}
-use Rattle.spunmarrow.specs.Write.{counts_of, three, write_left, writer_call}
+use Rattle.spunmarrow.specs.Write.{counts_of, three, write_left, obj_call}
 
 -- A call of unit meshing.
 module _ (shape min max : List ℕ) (faces : List ℤ) (voxels out : List ℕ) {x : Answer (Unit {0})} (read : x ≡ checked (bad_numbers faces)) {answer : List ℕ} where
@@ -50,16 +51,16 @@ module _ (shape min max : List ℕ) (faces : List ℤ) (voxels visited out : Lis
   unfolding greedy_call
   greedy_made e s least most six meshed is = rw (is, sym read ∙ e, ← s, ← least, ← most, ← six, ← meshed)
 
--- A call of a writer, whichever it is.
-module _ (writer : List OrientedBlockFace → List ℕ → List ℕ → List ℕ → WriteOutcome) (faces : List ℤ) (counts list out : List ℕ) {x : Answer (Unit {0})} (read : x ≡ checked (bad_numbers faces)) {answer : List ℕ} where
+-- A call that writes a mesh as OBJ text.
+module _ (faces : List ℤ) (counts list out : List ℕ) {x : Answer (Unit {0})} (read : x ≡ checked (bad_numbers faces)) {answer : List ℕ} where
   -- Faces that are refused leave the output as it was.
-  pub writer_refused : {n p : ℕ} → x ≡ refused n p → answer ≡ three (refused_answer n p) → write_left answer out ≡ writer_call writer faces counts list out
-  unfolding writer_call
-  writer_refused e is = rw (is, sym read ∙ e)
+  pub obj_refused : {n p : ℕ} {r : WriteAnswer} → x ≡ refused n p → r ≡ refused_answer n p → answer ≡ three r → write_left answer out ≡ obj_call faces counts list out
+  unfolding obj_call
+  obj_refused e told is = rw (is, told, sym read ∙ e)
 
   -- Otherwise it leaves what the writer leaves.
-  pub writer_made : {six : List OrientedBlockFace} {cs : List ℕ} {r : WriteAnswer} {made : List ℕ} → x ≡ accepted tt
-      → six ≡ faces_of faces → cs ≡ counts_of counts → written.outcome r made ≡ writer six cs list out → answer ≡ three r
-      → write_left answer made ≡ writer_call writer faces counts list out
-  unfolding writer_call
-  writer_made e six cs wrote is = rw (is, sym read ∙ e, ← six, ← cs, ← wrote)
+  pub obj_made : {six : List OrientedBlockFace} {cs : List ℕ} {r : WriteAnswer} {made : List ℕ} → x ≡ accepted tt
+      → six ≡ faces_of faces → cs ≡ counts_of counts → written.outcome r made ≡ write_obj six cs list out → answer ≡ three r
+      → write_left answer made ≡ obj_call faces counts list out
+  unfolding obj_call
+  obj_made e six cs wrote is = rw (is, sym read ∙ e, ← six, ← cs, ← wrote)

@@ -3,12 +3,10 @@
 use mathlib.Core.List.{List}
 use mathlib.Core.Path.{◌≡◌, refl, sym, ◌∙◌, ap}
 use Prim.Native.Nat.{ℕ}
-use lib.IntN.{ℤ}
 use Rattle.spunmarrow.specs.Draw.{Told}
 use Rattle.digits.specs.Decimal.{Spelt}
 use Rattle.spunmarrow.specs.Mesh.{UnitLeft, GreedyLeft}
 use Rattle.spunmarrow.specs.Write.{WriteLeft}
-use Rattle.spunmarrow.specs.Read.{ReadLeft}
 use Rattle.spunmarrow.proofs.draw.spunmarrow_corner.Reads as spunmarrow-corner
 use Rattle.spunmarrow.proofs.draw.spunmarrow_corners.Reads as spunmarrow-corners
 use Rattle.spunmarrow.proofs.draw.spunmarrow_normal.Reads as spunmarrow-normal
@@ -17,9 +15,7 @@ use Rattle.spunmarrow.proofs.draw.spunmarrow_tex_coords.Reads as spunmarrow-tex-
 use Rattle.spunmarrow.proofs.mesh.spunmarrow_visible_block_faces.Reads as spunmarrow-visible-block-faces
 use Rattle.spunmarrow.proofs.mesh.spunmarrow_greedy_quads.Reads as spunmarrow-greedy-quads
 use Rattle.spunmarrow.proofs.write.spunmarrow_write_obj.Reads as spunmarrow-write-obj
-use Rattle.spunmarrow.proofs.write.spunmarrow_write_saved.Reads as spunmarrow-write-saved
 use Rattle.spunmarrow.proofs.write.spunmarrow_decimal.Reads as spunmarrow-decimal
-use Rattle.spunmarrow.proofs.read.spunmarrow_read_saved.Reads as spunmarrow-read-saved
 
 -- A contract, as a relation of lifetimes, arguments, the result and what is lent at exit, leaves one result, and one of what is read at exit.
 abbrev pub OneLeft {ℓ α ρ σ π ο} :
@@ -60,20 +56,10 @@ spunmarrow_greedy_quads_unique κs a r r' s s' p q =
     (refl, ap (λ (o : GreedyLeft). (o.answer, o.visited, o.out)) e)
 
 -- A writer's call leaves its answer and its output,
-one_written : {t u v : WriteLeft} → t ≡ v → u ≡ v → ◌≡◌ {A = List ℕ × List ℕ} (t.answer, t.out) (u.answer, u.out)
-one_written p q = ap (λ (o : WriteLeft). (o.answer, o.out)) (p ∙ sym q)
-
 pub spunmarrow_write_obj_unique : OneLeft spunmarrow-write-obj.Post {O = List ℕ × List ℕ} (λ κs s. (s.1.1.1.1.0.now, s.1.1.1.0.now))
-spunmarrow_write_obj_unique κs a r r' s s' p q = (refl, one_written p q)
-
-pub spunmarrow_write_saved_unique : OneLeft spunmarrow-write-saved.Post {O = List ℕ × List ℕ} (λ κs s. (s.1.1.1.1.0.now, s.1.1.1.0.now))
-spunmarrow_write_saved_unique κs a r r' s s' p q = (refl, one_written p q)
-
--- the reader's its answer, its faces and its output,
-pub spunmarrow_read_saved_unique : OneLeft spunmarrow-read-saved.Post {O = List ℕ × List ℤ × List ℕ} (λ κs s. (s.1.1.1.0.now, s.1.0.now, s.1.1.0.now))
-spunmarrow_read_saved_unique κs a r r' s s' p q =
+spunmarrow_write_obj_unique κs a r r' s s' p q =
     let e = p ∙ sym q in
-    (refl, ap (λ (o : ReadLeft). (o.answer, o.faces, o.out)) e)
+    (refl, ap (λ (o : WriteLeft). (o.answer, o.out)) e)
 
 -- and the formatter's, beside its result, the scratch.
 pub spunmarrow_decimal_unique : OneLeft spunmarrow-decimal.Post (λ κs s. s.1.0.now)

@@ -8,5 +8,3 @@ pub mod Faces
 pub mod Mesh
 -- The writers' calls.
 pub mod Write
--- The reader's call.
-pub mod Read

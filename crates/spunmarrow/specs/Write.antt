@@ -1,11 +1,9 @@
 -- The writers' calls (include/spunmarrow.h, 'writing'). 17 comes before document 02's numbers: then the output is as it was and no byte is written.
 use Rattle.std.specs.Prelude.{List, [], ◌∷◌, ℕ, ℤ, get_or}
-use Rattle.geometry.specs.declared.face.OrientedBlockFace.{OrientedBlockFace}
 use Rattle.geometry.specs.Refusal.{Answer, accepted, refused, checked}
 use Rattle.writing.specs.declared.written.WriteAnswer.{WriteAnswer}
 use Rattle.writing.specs.Written.{WriteOutcome, refused_answer}
 use Rattle.obj.specs.Obj.{write_obj}
-use Rattle.saved.specs.Saved.{write_saved}
 use Rattle.spunmarrow.specs.Faces.{bad_numbers, faces_of}
 
 -- Six counts.
@@ -30,14 +28,6 @@ abbrev pub write_after : Answer (Unit {0}) → WriteOutcome → List ℕ → Wri
 write_after (accepted u) o out = write_left (three o.answer) o.out
 write_after (refused n p) o out = write_left (three (refused_answer n p)) out
 
--- The whole outcome of a call of a writer: 17, then what the writer leaves for those faces, counts, list and output.
-unfoldable pub writer_call : (List OrientedBlockFace → List ℕ → List ℕ → List ℕ → WriteOutcome) → List ℤ → List ℕ → List ℕ → List ℕ → WriteLeft
-writer_call writer faces counts list out = write_after (checked (bad_numbers faces)) (writer (faces_of faces) (counts_of counts) list out) out
-
--- Of a call that writes a mesh as OBJ text: 17, then what `write_obj` leaves.
-abbrev pub obj_call : List ℤ → List ℕ → List ℕ → List ℕ → WriteLeft
-obj_call = writer_call write_obj
-
--- Of a call that writes a mesh as a saved file: 17, then what `write_saved` leaves.
-abbrev pub saved_call : List ℤ → List ℕ → List ℕ → List ℕ → WriteLeft
-saved_call = writer_call write_saved
+-- The whole outcome of a call that writes a mesh as OBJ text: 17, then what `write_obj` leaves.
+unfoldable pub obj_call : List ℤ → List ℕ → List ℕ → List ℕ → WriteLeft
+obj_call faces counts list out = write_after (checked (bad_numbers faces)) (write_obj (faces_of faces) (counts_of counts) list out) out

@@ -8,5 +8,4 @@
 pub mod draw;
 pub mod mesh;
 mod numbers;
-pub mod read;
 pub mod write;

@@ -1,9 +1,8 @@
-// The writers' calls, over crates obj, saved and digits. `answer` gets three numbers: the refusal, or 0 where the
+// The writers' calls, over crates obj and digits. `answer` gets three numbers: the refusal, or 0 where the
 // call is accepted; its place; and how many bytes were written.
 ghost use Rattle.std.specs.Prelude.{◌≡◌};
 ghost use Rattle.digits.specs.Decimal.{spelt, spelling};
-ghost use Rattle.writing.specs.Written.{refused_answer};
-ghost use Rattle.spunmarrow.specs.Write.{three, write_left, obj_call, saved_call};
+ghost use Rattle.spunmarrow.specs.Write.{three, write_left, obj_call};
 
 use crate::numbers;
 use geometry::refusal::CheckAnswer;
@@ -16,13 +15,6 @@ fn write(answer: &mut [u64; 3], done: WriteAnswer)
 {
     let number = done.refusal as u64;
     *answer = [number, done.place, done.written];
-}
-
-// Writes the answer of a refused call.
-fn refuse(answer: &mut [u64; 3], number: u32, place: u64)
-    ensures { answer.new ≡ three (refused_answer number place) }
-{
-    write(answer, written::refused(number, place));
 }
 
 // A mesh as OBJ text. Refuses by 17, then as `write_obj` does.
@@ -38,37 +30,10 @@ pub extern "C" fn spunmarrow_write_obj(
 {
     match numbers::check_faces(faces) {
         CheckAnswer::Refused(number, place) => {
-            refuse(answer, number, place);
+            write(answer, written::refused(number, place));
         }
         CheckAnswer::Passed => {
             let done = obj::write_obj(numbers::faces(faces), numbers::counts(counts), quads, out);
-            write(answer, done);
-        }
-    }
-}
-
-// A mesh as a saved file. Refuses by 17, then as `write_saved` does.
-#[unsafe(no_mangle)]
-pub extern "C" fn spunmarrow_write_saved(
-    faces: &[i32; 12],
-    counts: &[u64; 6],
-    quads: &[u32],
-    out: &mut [u8],
-    answer: &mut [u64; 3],
-)
-    ensures { write_left answer.new out.new ≡ saved_call faces.now counts.now quads.now out.old }
-{
-    match numbers::check_faces(faces) {
-        CheckAnswer::Refused(number, place) => {
-            refuse(answer, number, place);
-        }
-        CheckAnswer::Passed => {
-            let done = saved::write_saved(
-                numbers::faces(faces),
-                numbers::counts(counts),
-                quads,
-                out,
-            );
             write(answer, done);
         }
     }

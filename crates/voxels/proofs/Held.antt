@@ -1,6 +1,6 @@
 -- What checks 1 to 5 leave when they pass: the box lies in the shape, spans two voxels or more on each axis, and every voxel was lent. This is the one place where
 -- X·Y·Z ≤ 16,777,216 comes from the largest axis.
-use Rattle.std.proofs.Common.{◌≡◌, ℕ, ◌+◌, ◌-◌, ◌*◌, ◌%◌, ◌<◌, ◌≤◌, Bool, false, eqb, ltb, leb, List, [], ◌∷◌, ◌++◌, map, refl, ◌∙◌, mul-le-mul_right, mod-eq_of_lt, add_mul, mul-le-mul, mul-le-mul_left, one-mul, zero-mul, mul-one, arith, ltb-false, eqb-true, leb-false}
+use Rattle.std.proofs.Common.{◌≡◌, ℕ, ◌+◌, ◌-◌, ◌*◌, ◌%◌, ◌<◌, ◌≤◌, Bool, false, eqb, ltb, leb, List, [], ◌∷◌, ◌++◌, map, refl, ◌∙◌, mul-le-mul_right, mod-eq_of_lt, add-mul, mul-le-mul, mul-le-mul_left, one-mul, zero-mul, mul-one, arith, ltb-false, eqb-true, leb-false}
 use borrow.Author.Tests.{eqb-false}
 use Rattle.geometry.specs.declared.axis.Axis.{Axis}
 use Rattle.geometry.specs.declared.axis.Axis.TheVariants.{X, Y, Z}
@@ -138,13 +138,13 @@ module _ (shape : Point) (lent : ℕ) (min max : Point) (h : Held shape lent min
       → RowsLent lent (index shape min + k * stride shape Z) (max.x - min.x + 1) (stride shape Y) (max.y - min.y + 1)
   rows_lent k hk = record {
     each = λ j hj. omega (arith, h.enough, at_below (max.x - min.x) j k (omega arith) (omega arith) hk);
-    last = omega (arith, h.small, stride_small Y, add_mul (max.y - min.y) 1 (stride shape Y), one-mul (stride shape Y), at_below 0 (max.y - min.y) k (omega arith) (omega arith) hk);
+    last = omega (arith, h.small, stride_small Y, add-mul (max.y - min.y) 1 (stride shape Y), one-mul (stride shape Y), at_below 0 (max.y - min.y) k (omega arith) (omega arith) hk);
   }
 
   pub slices_lent : SlicesLent lent (index shape min) (max.x - min.x + 1) (stride shape Y) (max.y - min.y + 1) (stride shape Z) (max.z - min.z + 1)
   slices_lent = record {
     each = λ k hk. rows_lent k (omega arith);
-    last = omega (arith, h.small, stride_small Z, add_mul (max.z - min.z) 1 (stride shape Z), one-mul (stride shape Z), zero-mul (stride shape Y), at_below 0 0 (max.z - min.z) (omega arith) (omega arith) (omega arith));
+    last = omega (arith, h.small, stride_small Z, add-mul (max.z - min.z) 1 (stride shape Z), one-mul (stride shape Z), zero-mul (stride shape Y), at_below 0 0 (max.z - min.z) (omega arith) (omega arith) (omega arith));
   }
 
   -- A check of each voxel of the box, by the voxels' indices;

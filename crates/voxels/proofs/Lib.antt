@@ -29,5 +29,5 @@ pub mod Times
 pub mod Unique
 -- What an entry has passed, part by part.
 pub mod Passed
--- The numbers that checks give, and an entry may.
+-- The numbers that an entry may give.
 pub mod Numbered

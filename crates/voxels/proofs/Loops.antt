@@ -1,5 +1,5 @@
 -- Loops: where one stands, and the laws of the one fold `looped`, whatever it joins. Lists end to end, sums, and what is done to a state are its instances.
-use Rattle.std.proofs.Common.{◌≡◌, ℕ, zero, suc, ◌+◌, ◌-◌, ◌*◌, ◌<◌, ◌≤◌, List, [], ◌++◌, length, sym, refl, ap, ◌∙◌, append_assoc, append-nil, not-suc-le-zero, add-zero, add_assoc, add-le-add, mul-le-mul_right, suc_mul, add_mul, suc-add, one-mul, zero-add, zero-mul, arith, length_append}
+use Rattle.std.proofs.Common.{◌≡◌, ℕ, zero, suc, ◌+◌, ◌-◌, ◌*◌, ◌<◌, ◌≤◌, List, [], ◌++◌, length, sym, refl, ap, ◌∙◌, append_assoc, append-nil, not-suc-le-zero, add-zero, add_assoc, add-le-add, mul-le-mul_right, suc_mul, add-mul, suc-add, one-mul, zero-add, zero-mul, arith, length_append}
 use native.Mathlib.Nat.{sub-zero}
 use Rattle.voxels.specs.Loop.{looped, step_by, Stand, stand, on_by, and_next, steps}
 
@@ -15,7 +15,7 @@ done k n h = omega arith
 
 -- k strides and one are k + 1,
 pub stride_more : (k d : ℕ) → k * d + d ≡ (k + 1) * d
-stride_more k d = omega (arith, add_mul k 1 d, one-mul d)
+stride_more k d = omega (arith, add-mul k 1 d, one-mul d)
 
 -- and no more than n where k is below n.
 pub stride_fits : (k n d : ℕ) → k < n → k * d + d ≤ n * d

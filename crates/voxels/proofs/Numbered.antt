@@ -1,4 +1,4 @@
--- The numbers that checks give, and those that an entry may give: neither 0, by which an accepted call is known, nor 9, which comes after the entry. So an answer of 0 or 9 is of a call whose entry passed.
+-- The numbers that an entry may give: neither 0, by which an accepted call is known, nor 9, which comes after the entry. So an answer of 0 or 9 is of a call whose entry passed.
 use Rattle.std.proofs.Common.{◌≡◌, ℕ, ◌+◌, Bool, true, false, not, ◌&&◌, eqb, List, [], ◌∷◌, ◌++◌, map, length, sym, refl, ◌∙◌}
 use mathlib.Core.Bool.{false≢true}
 use Rattle.geometry.specs.declared.face.OrientedBlockFace.{OrientedBlockFace}
@@ -11,42 +11,30 @@ use Rattle.voxels.specs.Shape.{index}
 use Rattle.voxels.specs.Extent.{box, scan}
 use Rattle.voxels.specs.Checks.{bounds_checks, bad_faces_from, bad_faces, few_visited, bad_voxel_at, bad_voxels, unit_checks, greedy_checks}
 
--- ---- any checks
-
--- Of a test of numbers.
-module _ (may : ℕ → Bool) where
-  -- A check that gives a number which passes it.
-  abbrev pub Numbered : Check → Type 0
-  Numbered c = may c.number ≡ true
-
-  -- Such checks refuse with such a number,
-  refused_numbered : (cs : List Check) → Each Numbered cs → {n p : ℕ} → checked cs ≡ refused n p → may n ≡ true
-  unfolding Each answer
-  refused_numbered [] h e = absurd (not_both e)
-  refused_numbered (c ∷ cs) h {n} {p} e =
-      split c.applies
-      (λ t. let is : c.number ≡ n = refused_number (sym (applies c cs tt t) ∙ e) in rw (sym is) h.0)
-      (λ f. refused_numbered cs h.1 (sym (passes c cs tt f) ∙ e))
-
-  -- and never with another.
-  pub never : (cs : List Check) → Each Numbered cs → (m : ℕ) → may m ≡ false → (p : ℕ) → checked cs ≡ refused m p → ⊥
-  never cs h m other p e = let clash : true ≡ false = sym (refused_numbered cs h e) ∙ other in false≢true (sym clash)
-
-  -- Those of faces give 6.
-  pub faces_numbered : may 6 ≡ true → (k : ℕ) (fs : List OrientedBlockFace) → Each Numbered (bad_faces_from k fs)
-  unfolding bad_faces_from Each
-  faces_numbered six k [] = tt
-  faces_numbered six k (f ∷ fs) = (six, faces_numbered six (k + 1) fs)
-
--- ---- an entry
-
 -- Whether an entry may give a number.
 abbrev pub entry_number : ℕ → Bool
 entry_number n = not (eqb n 0) && not (eqb n 9)
 
 -- A check that gives such a number.
 abbrev EntryCheck : Check → Type 0
-EntryCheck c = Numbered entry_number c
+EntryCheck c = entry_number c.number ≡ true
+
+-- Such checks refuse with such a number.
+refused_entry : (cs : List Check) → Each EntryCheck cs → {n p : ℕ} → checked cs ≡ refused n p → entry_number n ≡ true
+unfolding Each answer
+refused_entry [] h e = absurd (not_both e)
+refused_entry (c ∷ cs) h {n} {p} e =
+    split c.applies
+    (λ t. let is : c.number ≡ n = refused_number (sym (applies c cs tt t) ∙ e) in rw (sym is) h.0)
+    (λ f. refused_entry cs h.1 (sym (passes c cs tt f) ∙ e))
+
+never : (cs : List Check) → Each EntryCheck cs → (m : ℕ) → entry_number m ≡ false → (p : ℕ) → checked cs ≡ refused m p → ⊥
+never cs h m other p e = let clash : true ≡ false = sym (refused_entry cs h e) ∙ other in false≢true (sym clash)
+
+faces_numbered : (k : ℕ) (fs : List OrientedBlockFace) → Each EntryCheck (bad_faces_from k fs)
+unfolding bad_faces_from Each
+faces_numbered k [] = tt
+faces_numbered k (f ∷ fs) = (refl, faces_numbered (k + 1) fs)
 
 voxels_numbered : (voxels : List ℕ) (shape : Point) (l : List Point) → Each EntryCheck (map (λ (p : Point). bad_voxel_at voxels (index shape p)) l)
 unfolding Each
@@ -59,20 +47,20 @@ module _ (voxels : List ℕ) (shape min max : Point) (faces : List OrientedBlock
   bounds_numbered = (refl, (refl, (refl, (refl, (refl, (refl, (refl, (refl, (refl, (refl, (refl, (refl, (refl, tt)))))))))))))
 
   to_faces : Each EntryCheck (bounds_checks (length voxels) shape min max ++ bad_faces faces)
-  to_faces = each_append EntryCheck (bounds_checks (length voxels) shape min max) (bad_faces faces) bounds_numbered (faces_numbered entry_number refl 0 faces)
+  to_faces = each_append EntryCheck (bounds_checks (length voxels) shape min max) (bad_faces faces) bounds_numbered (faces_numbered 0 faces)
 
   -- Of unit meshing,
   pub unit_never : (m : ℕ) → entry_number m ≡ false → (p : ℕ) → checked (unit_checks voxels shape min max faces) ≡ refused m p → ⊥
   unfolding bad_voxels
   unit_never =
-      never entry_number (unit_checks voxels shape min max faces)
+      never (unit_checks voxels shape min max faces)
       (each_append EntryCheck (bounds_checks (length voxels) shape min max ++ bad_faces faces) (bad_voxels voxels shape min max) to_faces (voxels_numbered voxels shape (scan (box min max))))
 
   -- and of greedy meshing.
   pub greedy_never : (lent m : ℕ) → entry_number m ≡ false → (p : ℕ) → checked (greedy_checks voxels shape min max faces lent) ≡ refused m p → ⊥
   unfolding bad_voxels Each
   greedy_never lent =
-      never entry_number (greedy_checks voxels shape min max faces lent)
+      never (greedy_checks voxels shape min max faces lent)
       (each_append EntryCheck (bounds_checks (length voxels) shape min max ++ bad_faces faces ++ few_visited lent shape) (bad_voxels voxels shape min max)
       (each_append EntryCheck (bounds_checks (length voxels) shape min max ++ bad_faces faces) (few_visited lent shape) to_faces (refl, tt))
       (voxels_numbered voxels shape (scan (box min max))))

@@ -1,5 +1,5 @@
 -- Laws of products and remainders that the machine's numbers ask for.
-use Rattle.std.proofs.Common.{◌≡◌, ℕ, zero, ◌+◌, ◌*◌, ◌/◌, ◌%◌, ◌<◌, ◌≤◌, false, ltb, sym, ap, ◌∙◌, mul_assoc, div-lt_iff_lt-mul, add_mul, mul-le-mul, mul-zero, le-div_iff_mul-le, arith, ltb-false, ltb-true, le-ltb, lt-ltb}
+use Rattle.std.proofs.Common.{◌≡◌, ℕ, zero, ◌+◌, ◌*◌, ◌/◌, ◌%◌, ◌<◌, ◌≤◌, false, ltb, sym, ap, ◌∙◌, mul_assoc, div-lt_iff_lt-mul, add-mul, mul-le-mul, mul-zero, le-div_iff_mul-le, arith, ltb-false, ltb-true, le-ltb, lt-ltb}
 use native.Mathlib.Nat.{mod-add-div, add-mul-mod_self_left, mod-add-mod, add-mod-mod}
 use Rattle.geometry.proofs.Refusals.{split}
 use Rattle.voxels.specs.Visible.{modulus}
@@ -17,7 +17,7 @@ product_fits a b ha hb = omega (arith, wide_product a b 0 ha hb (omega arith))
 pub mod_mul : (b c m : ℕ) → b % m * c % m ≡ b * c % m
 mod_mul b c m =
     sym (add-mul-mod_self_left (b % m * c) m (b / m * c))
-    ∙ ap (λ (n : ℕ). n % m) (ap (λ (n : ℕ). b % m * c + n) (sym (mul_assoc m (b / m) c)) ∙ sym (add_mul (b % m) (m * (b / m)) c) ∙ ap (λ (n : ℕ). n * c) (mod-add-div b m))
+    ∙ ap (λ (n : ℕ). n % m) (ap (λ (n : ℕ). b % m * c + n) (sym (mul_assoc m (b / m) c)) ∙ sym (add-mul (b % m) (m * (b / m)) c) ∙ ap (λ (n : ℕ). n * c) (mod-add-div b m))
 
 -- And of both parts of a sum.
 pub mod_sum : (a b c m : ℕ) → (a % m + b % m * c) % m ≡ (a + b * c) % m

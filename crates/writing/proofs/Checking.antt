@@ -17,14 +17,14 @@ module _ (cs ds : List Check) {all : List Check} {t : Answer (Unit {0})} (cut : 
   in_two : follow (checked cs) (checked ds) ≡ t
   in_two = sym (in_turn cs ds tt) ∙ sym (ap checked cut) ∙ left
 
-  pub checks_on : checked cs ≡ accepted tt → checked ds ≡ t
+  checks_on : checked cs ≡ accepted tt → checked ds ≡ t
   checks_on e = rw e at in_two
 
-  pub checks_stop : {n p : ℕ} → checked cs ≡ refused n p → refused n p ≡ t
+  checks_stop : {n p : ℕ} → checked cs ≡ refused n p → refused n p ≡ t
   checks_stop e = rw e at in_two
 
 -- No checks refuse nothing.
-pub checks_done : {cs : List Check} {t : Answer (Unit {0})} → checked cs ≡ t → cs ≡ [] → accepted tt ≡ t
+checks_done : {cs : List Check} {t : Answer (Unit {0})} → checked cs ≡ t → cs ≡ [] → accepted tt ≡ t
 unfolding answer
 checks_done e none = rw none at e
 

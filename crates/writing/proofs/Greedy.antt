@@ -51,7 +51,7 @@ use Rattle.greedy.proofs.greedy_quads.Kinds as greedy-quads-kinds
 use Rattle.greedy.proofs.greedy_quads.Reads as greedy-quads
 use Rattle.writing.specs.Handed.{on_face, oriented, handed, total}
 use Rattle.writing.specs.Statements.{WithinQuad, ListedPasses}
-use Rattle.writing.proofs.Rest.{group_held, total_joined}
+use Rattle.writing.proofs.Rest.{group_held}
 use Rattle.writing.proofs.Ordered.{passed_order}
 
 -- ---- how many quads there are
@@ -95,6 +95,12 @@ listed_few inner v (f ∷ faces) =
       listed_few inner v faces,
       suc_mul (length faces) (points inner),
     )
+
+-- The lists' lengths sum to that of all of them.
+total_joined : {A : Type 0} (ls : List (List A)) → total (map length ls) ≡ length (joined ls)
+unfolding total joined
+total_joined [] = refl
+total_joined (l ∷ ls) = omega (arith, length_append l (joined ls), total_joined ls)
 
 -- ---- that each is within the limits
 

@@ -7,10 +7,6 @@ pub mod Taking
 pub mod Checking
 -- Of the order of the checks.
 pub mod Ordered
--- Of bytes put into an output.
-pub mod Page
--- Of the numbers that a writer's checks may give.
-pub mod Numbered
 -- Of what a writer leaves.
 pub mod Outcome
 -- That every public contract leaves one outcome.

@@ -74,7 +74,7 @@ module _ (numbers : ℕ) (faces : List OrientedBlockFace) (counts list : List �
             sym (at_last ∙ passes _ [] (total counts) (le-ltb most_quads (total counts) (rw (sym sum) at h)) ∙ ap accepted sum)
 
 -- Where 12 refuses no quad each is within the limits,
-pub quads_within : (k : ℕ) (qs : List OrientedQuad) → checked (numbered bad_quad_at k qs) ≡ accepted tt → Each WithinQuad qs
+quads_within : (k : ℕ) (qs : List OrientedQuad) → checked (numbered bad_quad_at k qs) ≡ accepted tt → Each WithinQuad qs
 unfolding numbered Each
 quads_within k [] h = tt
 quads_within k (q ∷ qs) h =
@@ -82,7 +82,7 @@ quads_within k (q ∷ qs) h =
     (not-false _ (first_passes _ [] tt here), quads_within (k + 1) qs rest)
 
 -- and the other way.
-pub within_quads : (k : ℕ) (qs : List OrientedQuad) → Each WithinQuad qs → checked (numbered bad_quad_at k qs) ≡ accepted tt
+within_quads : (k : ℕ) (qs : List OrientedQuad) → Each WithinQuad qs → checked (numbered bad_quad_at k qs) ≡ accepted tt
 unfolding numbered Each answer
 within_quads k [] h = refl
 within_quads k (q ∷ qs) h = passes _ (numbered bad_quad_at (k + 1) qs) tt (ap not h.0) ∙ within_quads (k + 1) qs h.1

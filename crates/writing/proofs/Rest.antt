@@ -1,14 +1,14 @@
 -- What is left of a mesh, and one quad or one group less of it: what a loop over a mesh has to show, in the form of its invariant, whatever is made of the quads.
-use mathlib.Core.List.{List, [], ◌∷◌, ◌++◌, map, append_assoc}
+use mathlib.Core.List.{List, [], ◌∷◌, ◌++◌, append_assoc}
 use mathlib.Core.Path.{◌≡◌, refl, sym, ◌∙◌, ap}
 use Prim.Native.Nat.{ℕ, zero, suc, ◌+◌, ◌-◌, ◌*◌, ◌/◌, ◌≤◌, ◌<◌}
-use native.Mathlib.Nat.{mul-le-mul_right, div-mul-le_self, add_mul, zero-mul, div-le_self}
+use native.Mathlib.Nat.{mul-le-mul_right, div-mul-le_self, add-mul, zero-mul, div-le_self}
 use native.Mathlib.Omega.{arith}
 use lib.ListN.{length, get_or, take, drop, length_append, drop_of_length-le}
 use lib.Seq.{drop_drop, get_or-take}
 use Rattle.geometry.specs.declared.face.OrientedBlockFace.{OrientedBlockFace}
 use Rattle.voxels.proofs.Asked.{drop_next}
-use Rattle.listing.specs.Listing.{joined, capacity}
+use Rattle.listing.specs.Listing.{capacity}
 use Rattle.listing.specs.Cut.{items_in, groups_in}
 use Rattle.listing.proofs.Pushed.{room_enough}
 use Rattle.greedy.specs.Call.{quad_from}
@@ -59,7 +59,7 @@ pub in_start : {numbers first count : ℕ} → InGroup numbers first count 0 (fi
 in_start = record { most = omega arith; stands = omega arith }
 
 pub in_on : {numbers first count k at : ℕ} → InGroup numbers first count k at → k < count → InGroup numbers first count (k + 1) (at + numbers)
-in_on {numbers} {first} {count} {k} {at} i h = record { most = omega arith; stands = rw i.stands (omega (arith, add_mul (first + k) 1 numbers, add_mul first (k + 1) numbers, add_mul first k numbers, add_mul k 1 numbers)) }
+in_on {numbers} {first} {count} {k} {at} i h = record { most = omega arith; stands = rw i.stands (omega (arith, add-mul (first + k) 1 numbers, add-mul first (k + 1) numbers, add-mul first k numbers, add-mul k 1 numbers)) }
 
 -- What is made of the quads of a group: at the start all of them are left,
 pub group_start : {A : Type 0} (g : ℕ → OrientedQuad → List A) (numbers : ℕ) (list : List ℕ) (face : OrientedBlockFace) (first at count : ℕ)
@@ -123,12 +123,6 @@ handed_count numbers (face ∷ faces) (count ∷ counts) list h =
       handed_count numbers faces counts (drop (count * numbers) list) (omega arith),
     )
 
--- The lists' lengths sum to that of all of them.
-pub total_joined : {A : Type 0} (ls : List (List A)) → total (map length ls) ≡ length (joined ls)
-unfolding total joined
-total_joined [] = refl
-total_joined (l ∷ ls) = omega (arith, length_append l (joined ls), total_joined ls)
-
 -- The counts that are left.
 pub total_next : (counts : List ℕ) (k : ℕ) → k < length counts → total (drop k counts) ≡ get_or counts k 0 + total (drop (k + 1) counts)
 unfolding total
@@ -165,7 +159,7 @@ module _ {faces : List OrientedBlockFace} {counts : List ℕ} {first k : ℕ} (w
     groups_next d h =
         let f : OrientedBlockFace = get_or faces k d in
         let n : ℕ = get_or counts k 0 in
-        let after : first * numbers + n * numbers ≡ (first + n) * numbers = omega (arith, add_mul first n numbers) in
+        let after : first * numbers + n * numbers ≡ (first + n) * numbers = omega (arith, add-mul first n numbers) in
         rw (mesh_next numbers list (first * numbers) k faces counts d (omega (arith, w.faces_six)) (omega (arith, w.counts_six)), after)
         (numbered_append g first (quads_left numbers list f (first * numbers) n) _
         ∙ ap (λ (m : ℕ). group_left g numbers list f first (first * numbers) n ++ groups_left g numbers list (first + m) ((first + n) * numbers) (drop (k + 1) faces) (drop (k + 1) counts)) (quads_count numbers list f (first * numbers) n))

@@ -3,10 +3,9 @@
 pub mod Handed
 -- What a writer answers and leaves.
 pub mod Written
--- What is shown of a mesh that passes, and of what a writer leaves.
+-- What is shown of a mesh that passes.
 pub mod Statements
 -- Worked examples.
 pub mod Examples
 -- For private contracts, those of the writers too:
 pub mod Left
-pub mod Page

@@ -4,7 +4,7 @@ use mathlib.Core.Path.{sym, ◌∙◌, ap}
 use Prim.Native.Nat.{◌+◌, ◌*◌}
 use Rattle.geometry.specs.declared.face.QuadCorners.{QuadCorners}
 use Rattle.geometry.specs.Answers.{corners_meaning}
-use Rattle.obj.specs.Pieces.{point_places}
+use Rattle.obj.specs.Page.{point_places}
 use Rattle.obj.proofs.Given.{corners_are, corners_given}
 use Rattle.obj.proofs.Measured.{corners_long}
 use Rattle.obj.proofs.measure.corners.Statement.{statement}

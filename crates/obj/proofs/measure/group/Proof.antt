@@ -6,7 +6,7 @@ use native.Mathlib.Omega.{arith}
 use lib.ListN.{length, length_append}
 use Rattle.greedy.specs.Greedy.{quad_numbers}
 use Rattle.obj.specs.Text.{quad_text}
-use Rattle.obj.specs.Pieces.{on, group_text}
+use Rattle.obj.specs.Page.{on, group_text}
 use Rattle.obj.proofs.Going.{Going, quad_at, left, group_at_most, going_start, going_drawable, going_few, going_held, going_on, left_start, left_next, left_done, quad_read}
 use Rattle.obj.proofs.measure.group.Statement.{statement}
 use Rattle.obj.proofs.measure.group.Tie as tie

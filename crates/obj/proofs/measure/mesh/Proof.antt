@@ -30,9 +30,9 @@ next c = from_measured c.before.before.before.loop.invariant.0 _ c.before.before
 loop-holds : tie.Need-loop-init invariant-loop decreases-loop
 loop-holds c =
     let start = c.before in
-    let six_faces_lem = start.well-formed.0.1.0.1 in
+    let six-faces = start.well-formed.0.1.0.1 in
     let six-counts = start.well-formed.1.0.1.0.1 in
-    (meshing_start start.requires six_faces_lem six-counts, handed_at_most _ _ _ (six_faces_lem ∙ sym six-counts) start.requires, omega (arith, ap length (text_start start.args.quads.now start.args.t1 start.args.t2)))
+    (meshing_start start.requires six-faces six-counts, handed_at_most _ _ _ (six-faces ∙ sym six-counts) start.requires, omega (arith, ap length (text_start start.args.quads.now start.args.t1 start.args.t2)))
 
 mul-face : tie.Need-overflow-mul-face invariant-loop decreases-loop
 mul-face c = search rules

@@ -6,7 +6,7 @@ use native.Mathlib.Omega.{arith}
 use lib.ListN.{length, get_or, take, set}
 use Rattle.listing.specs.Pushed.{set_all}
 use Rattle.listing.proofs.Pushed.{set_all_length}
-use Rattle.writing.proofs.Page.{bytes_next, bytes_done}
+use Rattle.obj.proofs.Page.{bytes_next, bytes_done}
 use Rattle.obj.proofs.put.bytes.Statement.{statement}
 use Rattle.obj.proofs.put.bytes.Tie as tie
 

@@ -1,8 +1,8 @@
 -- `corner` meets its contract: a line that starts with `v` and a space.
 use borrow.Author.Rules.{rules}
 use mathlib.Core.Path.{sym}
-use Rattle.writing.proofs.Page.{wrote_as, room_as}
 use Rattle.obj.specs.Text.{v}
+use Rattle.obj.proofs.Page.{wrote_as, room_as}
 use Rattle.obj.proofs.Measured.{line_bytes}
 use Rattle.obj.proofs.put.corner.Statement.{statement}
 use Rattle.obj.proofs.put.corner.Tie as tie

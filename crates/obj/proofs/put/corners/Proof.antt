@@ -3,8 +3,8 @@ use borrow.Author.Rules.{rules}
 use mathlib.Core.Path.{◌≡◌, sym, ap}
 use Rattle.geometry.specs.Answers.{corners_meaning}
 use Rattle.geometry.specs.Corners.{corners}
-use Rattle.writing.specs.Page.{Room}
-use Rattle.writing.proofs.Page.{wrote_both, wrote_as, room_first, room_second, room_as}
+use Rattle.obj.specs.Page.{Room}
+use Rattle.obj.proofs.Page.{wrote_both, wrote_as, room_first, room_second, room_as}
 use Rattle.obj.proofs.Given.{corners_are, corners_given}
 use Rattle.obj.proofs.Lines.{fourth, from_third, from_second, four_lines, corners_lines}
 use Rattle.obj.proofs.put.corners.Statement.{statement}

@@ -2,9 +2,9 @@
 use borrow.Author.Rules.{rules}
 use mathlib.Core.List.{List, ◌++◌}
 use Prim.Native.Nat.{ℕ}
-use Rattle.writing.proofs.Page.{wrote_both, room_first, room_second}
 use Rattle.obj.specs.Text.{space, line_feed}
-use Rattle.obj.specs.Pieces.{ended}
+use Rattle.obj.specs.Page.{ended}
+use Rattle.obj.proofs.Page.{wrote_both, room_first, room_second}
 use Rattle.obj.proofs.put.line.Statement.{statement}
 use Rattle.obj.proofs.put.line.Tie as tie
 

@@ -8,7 +8,7 @@ use lib.ListN.{length, length_append}
 use Rattle.digits.specs.Decimal.{digits}
 use Rattle.digits.proofs.Written.{spelled_many, spelled_from}
 use Rattle.listing.proofs.Pushed.{set_all_length}
-use Rattle.writing.proofs.Page.{byte_after}
+use Rattle.obj.proofs.Page.{byte_after}
 use Rattle.obj.proofs.put.number.Statement.{statement}
 use Rattle.obj.proofs.put.number.Tie as tie
 

@@ -1,9 +1,9 @@
 -- `quad` meets its contract: the lines of its corners, and then those of its triangles.
 use borrow.Author.Rules.{rules}
 use mathlib.Core.Path.{sym}
-use Rattle.writing.proofs.Page.{wrote_both, wrote_as, room_first, room_second, room_as}
 use Rattle.obj.specs.Text.{bytes_of, triangle_lines}
-use Rattle.obj.specs.Pieces.{on}
+use Rattle.obj.specs.Page.{on}
+use Rattle.obj.proofs.Page.{wrote_both, wrote_as, room_first, room_second, room_as}
 use Rattle.obj.proofs.Measured.{quad_cut_in_two}
 use Rattle.obj.proofs.put.quad.Statement.{statement}
 use Rattle.obj.proofs.put.quad.Tie as tie

@@ -2,10 +2,9 @@
 use borrow.Author.Rules.{rules}
 use mathlib.Core.Path.{◌≡◌, sym, ap}
 use Rattle.geometry.specs.Answers.{indices_meaning}
-use Rattle.writing.specs.Page.{Room}
-use Rattle.writing.proofs.Page.{wrote_both, wrote_as, room_first, room_second, room_as}
 use Rattle.obj.specs.Text.{bytes, triangle_line, second_triangle, indices_at}
-use Rattle.obj.specs.Pieces.{on}
+use Rattle.obj.specs.Page.{Room, on}
+use Rattle.obj.proofs.Page.{wrote_both, wrote_as, room_first, room_second, room_as}
 use Rattle.obj.proofs.Given.{indices_are, indices_given}
 use Rattle.obj.proofs.Lines.{two_lines, triangles_lines, small_indices}
 use Rattle.obj.proofs.put.triangles.Statement.{statement}

@@ -2,8 +2,7 @@
 use borrow.Author.Rules.{rules}
 use mathlib.Core.Path.{ap}
 use Rattle.geometry.specs.Answers.{check_meaning}
-use Rattle.obj.specs.Obj.{write_obj}
-use Rattle.spunmarrow.proofs.Left.{writer_refused, writer_made}
+use Rattle.spunmarrow.proofs.Left.{obj_refused, obj_made}
 use Rattle.spunmarrow.proofs.write.spunmarrow_write_obj.Statement.{statement}
 use Rattle.spunmarrow.proofs.write.spunmarrow_write_obj.Tie as tie
 
@@ -13,8 +12,11 @@ check-faces-requires c κs = search rules
 enum-known-number : tie.Need-enum-known-number
 enum-known-number c = search rules
 
-refuse-requires : tie.Need-refuse-requires
-refuse-requires c κs = search rules
+refused-requires : tie.Need-refused-requires
+refused-requires c κs = search rules
+
+write-requires : tie.Need-write-requires
+write-requires c κs = search rules
 
 enum_told : tie.Need-enum-told
 enum_told c = search rules
@@ -28,13 +30,13 @@ counts-requires c κs = search rules
 write-obj-requires : tie.Need-write-obj-requires
 write-obj-requires c κs = search rules
 
-write-requires : tie.Need-write-requires
-write-requires c κs = search rules
+write-requires-2 : tie.Need-write-requires-2
+write-requires-2 c κs = search rules
 
 returns : tie.Need-returns
 returns c =
     let told = c.before.before.before in
-    writer_refused write_obj _ _ _ _ told.before.before.check-faces.ensures (ap check_meaning told.number.given.1) c.refuse.ensures
+    obj_refused _ _ _ _ told.before.before.before.check-faces.ensures (ap check_meaning told.before.number.given.1) c.before.refused.ensures c.write.ensures
 
 same_length : tie.Need-same-length
 same_length c = search rules
@@ -44,7 +46,7 @@ returns-2 c =
     let wrote = c.before.before.before.before in
     let read = wrote.before.before in
     let passed = read.before.before in
-    writer_made write_obj _ _ _ _ passed.before.before.check-faces.ensures (ap check_meaning passed.enum_told.given.1) read.before.faces.ensures read.counts.ensures wrote.write-obj.ensures c.write.ensures
+    obj_made _ _ _ _ passed.before.before.check-faces.ensures (ap check_meaning passed.enum_told.given.1) read.before.faces.ensures read.counts.ensures wrote.write-obj.ensures c.write2.ensures
 
 pub spunmarrow-write-obj-spec : {M : Type 1} → statement M
 spunmarrow-write-obj-spec =
@@ -52,12 +54,13 @@ spunmarrow-write-obj-spec =
     (tie.spec
     check-faces-requires
     enum-known-number
-    refuse-requires
+    refused-requires
+    write-requires
     enum_told
     faces-requires
     counts-requires
     write-obj-requires
-    write-requires
+    write-requires-2
     returns
     same_length
     returns-2)
