@@ -1,4 +1,6 @@
 // Decimal numbers, written into lent bytes: what a text writer spells its numbers with.
+#![tactic(auto)]
+
 mod lots;
 
 ghost use Rattle.std.specs.Prelude.{◌≡◌, length};

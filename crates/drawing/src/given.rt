@@ -6,21 +6,21 @@ use geometry::quad::UnorientedQuad;
 use geometry::vector::UVec3;
 
 // A face, and where the list goes on.
-#[derive(Drop)]
+#[derive(Clone, Copy)]
 pub struct FaceGiven {
     pub face: OrientedBlockFace,
     pub next: usize,
 }
 
 // A point, and where the list goes on.
-#[derive(Drop)]
+#[derive(Clone, Copy)]
 pub struct PointGiven {
     pub point: UVec3,
     pub next: usize,
 }
 
 // A quad, and where the list goes on.
-#[derive(Drop)]
+#[derive(Clone, Copy)]
 pub struct QuadGiven {
     pub quad: UnorientedQuad,
     pub next: usize,

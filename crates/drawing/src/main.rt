@@ -2,6 +2,8 @@
 // comes out of it.
 // The calls are read from standard input: the file stdin beside src/. The file stdout has what must
 // come out, written from document 01; the gate compares. The form of both stands in their first lines.
+#![tactic(auto)]
+
 mod axes;
 mod call;
 mod draw;

@@ -2,7 +2,7 @@
 use libc::STDOUT_FILENO;
 
 // A number of the list.
-#[derive(Drop)]
+#[derive(Clone, Copy)]
 pub struct Listed {
     pub value: u32,
     // Where the list goes on, past the byte after it.

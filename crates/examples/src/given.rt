@@ -5,14 +5,14 @@ use geometry::face::OrientedBlockFace;
 use geometry::vector::UVec3;
 
 // A face, and where the list goes on.
-#[derive(Drop)]
+#[derive(Clone, Copy)]
 pub struct FaceGiven {
     pub face: OrientedBlockFace,
     pub next: usize,
 }
 
 // A point, and where the list goes on.
-#[derive(Drop)]
+#[derive(Clone, Copy)]
 pub struct PointGiven {
     pub point: UVec3,
     pub next: usize,

@@ -2,6 +2,8 @@
 // with what comes out of it. Those of the drawing code are in crate drawing.
 // The calls are read from standard input: the file stdin beside src/. The file stdout has what must
 // come out, written from document 01; the gate compares. The form of both stands in their first lines.
+#![tactic(auto)]
+
 mod call;
 mod checks;
 mod given;

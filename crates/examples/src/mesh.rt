@@ -8,7 +8,7 @@ use voxels::bounds;
 use voxels::bounds::EntryAnswer;
 
 // What a mesher is given beside its buffers.
-#[derive(Drop)]
+#[derive(Clone, Copy)]
 struct Meshing {
     shape: UVec3,
     min: UVec3,

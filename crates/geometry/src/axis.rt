@@ -8,7 +8,7 @@ use crate::refusal;
 use crate::vector::{IVec3, UVec3};
 
 // One of the three axes.
-#[derive(Drop)]
+#[derive(Clone, Copy)]
 pub enum Axis {
     X,
     Y,
@@ -51,7 +51,7 @@ impl Axis {
 }
 
 // Which axes a face calls n, u and v: the name has them in that order.
-#[derive(Drop)]
+#[derive(Clone, Copy)]
 pub enum AxisPermutation {
     // Even, of sign 1.
     Xyz,
@@ -64,7 +64,7 @@ pub enum AxisPermutation {
 }
 
 // The three axes in the order that a permutation names.
-#[derive(Drop)]
+#[derive(Clone, Copy)]
 pub struct Axes {
     pub n: Axis,
     pub u: Axis,
@@ -72,7 +72,7 @@ pub struct Axes {
 }
 
 // The permutation of a number, or the refusal number.
-#[derive(Drop)]
+#[derive(Clone, Copy)]
 pub enum PermutationAnswer {
     Permutation(AxisPermutation),
     Refused(u32),
@@ -184,7 +184,7 @@ impl AxisPermutation {
 }
 
 // An axis with one of its two sides.
-#[derive(Drop)]
+#[derive(Clone, Copy)]
 pub enum SignedAxis {
     NegX,
     PosX,
@@ -195,7 +195,7 @@ pub enum SignedAxis {
 }
 
 // The signed axis that was made, or the refusal number.
-#[derive(Drop)]
+#[derive(Clone, Copy)]
 pub enum SignedAxisAnswer {
     Made(SignedAxis),
     Refused(u32),

@@ -24,7 +24,7 @@ use crate::vector::{IVec3, UVec3};
 use crate::{LARGEST_AXIS, refusal};
 
 // One of the six cube faces, with the order of its axes.
-#[derive(Drop)]
+#[derive(Clone, Copy)]
 pub struct OrientedBlockFace {
     // The side of n that the face looks to: 1 or -1. What is drawn of a face with another sign is
     // refused.
@@ -34,11 +34,11 @@ pub struct OrientedBlockFace {
 }
 
 // The number of a vertex in a mesh.
-#[derive(Drop)]
+#[derive(Clone, Copy)]
 pub struct VertexIndex(pub u32);
 
 // One of a quad's four corners, in the order of `quad_corners`.
-#[derive(Drop)]
+#[derive(Clone, Copy)]
 pub enum Corner {
     // 0: the base.
     MinuMinv,
@@ -51,7 +51,7 @@ pub enum Corner {
 }
 
 // The corners of a quad.
-#[derive(Drop)]
+#[derive(Clone, Copy)]
 pub struct QuadCorners {
     pub minu_minv: UVec3,
     pub maxu_minv: UVec3,
@@ -60,7 +60,7 @@ pub struct QuadCorners {
 }
 
 // Where a vertex is drawn.
-#[derive(Drop)]
+#[derive(Clone, Copy)]
 pub struct Position {
     pub x: f32,
     pub y: f32,
@@ -68,7 +68,7 @@ pub struct Position {
 }
 
 // The positions of a quad's corners.
-#[derive(Drop)]
+#[derive(Clone, Copy)]
 pub struct QuadPositions {
     pub minu_minv: Position,
     pub maxu_minv: Position,
@@ -77,7 +77,7 @@ pub struct QuadPositions {
 }
 
 // The direction that a vertex faces.
-#[derive(Drop)]
+#[derive(Clone, Copy)]
 pub struct Normal {
     pub x: f32,
     pub y: f32,
@@ -85,7 +85,7 @@ pub struct Normal {
 }
 
 // The normals at a quad's corners.
-#[derive(Drop)]
+#[derive(Clone, Copy)]
 pub struct QuadNormals {
     pub minu_minv: Normal,
     pub maxu_minv: Normal,
@@ -94,14 +94,14 @@ pub struct QuadNormals {
 }
 
 // A texture pair.
-#[derive(Drop)]
+#[derive(Clone, Copy)]
 pub struct TexCoord {
     pub u: f32,
     pub v: f32,
 }
 
 // The texture pairs of a quad's corners.
-#[derive(Drop)]
+#[derive(Clone, Copy)]
 pub struct QuadTexCoords {
     pub minu_minv: TexCoord,
     pub maxu_minv: TexCoord,
@@ -110,7 +110,7 @@ pub struct QuadTexCoords {
 }
 
 // The vertex numbers of a quad's two triangles.
-#[derive(Drop)]
+#[derive(Clone, Copy)]
 pub struct QuadIndices(
     pub VertexIndex,
     pub VertexIndex,
@@ -121,56 +121,56 @@ pub struct QuadIndices(
 );
 
 // The face that was made, or the refusal number.
-#[derive(Drop)]
+#[derive(Clone, Copy)]
 pub enum FaceAnswer {
     Face(OrientedBlockFace),
     Refused(u32),
 }
 
 // The signed normal, or the refusal number.
-#[derive(Drop)]
+#[derive(Clone, Copy)]
 pub enum SignedNormalAnswer {
     SignedNormal(IVec3),
     Refused(u32),
 }
 
 // The corners, or the refusal number.
-#[derive(Drop)]
+#[derive(Clone, Copy)]
 pub enum CornersAnswer {
     Corners(QuadCorners),
     Refused(u32),
 }
 
 // The positions, or the refusal number.
-#[derive(Drop)]
+#[derive(Clone, Copy)]
 pub enum PositionsAnswer {
     Positions(QuadPositions),
     Refused(u32),
 }
 
 // The three numbers of one corner's position, or the refusal number.
-#[derive(Drop)]
+#[derive(Clone, Copy)]
 pub enum PositionAnswer {
     Position(f32, f32, f32),
     Refused(u32),
 }
 
 // The normals, or the refusal number.
-#[derive(Drop)]
+#[derive(Clone, Copy)]
 pub enum NormalsAnswer {
     Normals(QuadNormals),
     Refused(u32),
 }
 
 // The vertex numbers, or the refusal number.
-#[derive(Drop)]
+#[derive(Clone, Copy)]
 pub enum IndicesAnswer {
     Indices(QuadIndices),
     Refused(u32),
 }
 
 // The texture pairs, or the refusal number.
-#[derive(Drop)]
+#[derive(Clone, Copy)]
 pub enum TexCoordsAnswer {
     TexCoords(QuadTexCoords),
     Refused(u32),

@@ -1,6 +1,8 @@
 // Axes, faces and quads of a block mesh, and the corner arithmetic that drawing code builds on.
 // After block-mesh 0.2.0, geometry/axis.rs, quad.rs and face.rs. Every public function promises its
 // whole answer for any input, by one equation with a definition of specs/, and requires nothing.
+#![tactic(auto)]
+
 pub mod axis;
 pub mod face;
 pub mod quad;

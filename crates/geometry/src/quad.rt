@@ -7,7 +7,7 @@ use crate::vector::UVec3;
 
 // A rectangle of voxels in one slice. Any numbers may stand in it: what draws one on a face checks
 // document 01's quad limits.
-#[derive(Drop)]
+#[derive(Clone, Copy)]
 pub struct UnorientedQuad {
     // Its least voxel on every axis.
     pub minimum: UVec3,
@@ -18,7 +18,7 @@ pub struct UnorientedQuad {
 }
 
 // The quad of one voxel.
-#[derive(Drop)]
+#[derive(Clone, Copy)]
 pub struct UnorientedUnitQuad {
     // The voxel.
     pub minimum: UVec3,

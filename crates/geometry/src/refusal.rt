@@ -32,7 +32,7 @@ pub const NO_SUCH_NUMBER: u32 = 17;
 
 // What a check says: nothing is refused, or the refusal number and its place. Geometry's own checks
 // give place 0.
-#[derive(Drop)]
+#[derive(Clone, Copy)]
 pub enum CheckAnswer {
     Passed,
     Refused(u32, u64),

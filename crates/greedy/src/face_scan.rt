@@ -11,7 +11,7 @@ use voxels::extent::Extent;
 use voxels::index::Stride;
 
 // A loop along an axis: its first coordinate, how many there are, and the stride from one to the next.
-#[derive(Drop)]
+#[derive(Clone, Copy)]
 pub(crate) struct Span {
     pub start: u32,
     pub count: u32,
@@ -20,7 +20,7 @@ pub(crate) struct Span {
 
 // What the scan of a face goes by: the Rust's `FaceStrides`, where the interior ends, and the loops
 // over slices, rows and the voxels of a row.
-#[derive(Drop)]
+#[derive(Clone, Copy)]
 pub(crate) struct FaceScan {
     pub axes: Axes,
     // The offset to the voxel that shares the face.

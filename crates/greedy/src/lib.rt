@@ -5,6 +5,8 @@
 // a voxel. Strides and offsets are computed once a face, and a voxel's index is the one before it
 // and a stride. A row passes the voxels that need no mesh in a loop of its own, which carries no more
 // than their test takes.
+#![tactic(auto)]
+
 ghost use Rattle.std.specs.Prelude.{◌≡◌, ◌+◌, ◌*◌, ◌<◌, ◌≤◌, length};
 ghost use Rattle.geometry.specs.Refusal.{accepted};
 ghost use Rattle.voxels.specs.Entered.{most_voxels};
@@ -31,7 +33,7 @@ use voxels::{bounds, voxel};
 pub const QUAD_NUMBERS: usize = 5;
 
 // What greedy meshing answers.
-#[derive(Drop)]
+#[derive(Clone, Copy)]
 pub struct GreedyAnswer {
     // The refusal, its place and the counts.
     pub mesh: MeshAnswer,
@@ -40,7 +42,7 @@ pub struct GreedyAnswer {
 }
 
 // How far a call is: the quads that it has listed, written or not, and the tests that it has made.
-#[derive(Drop)]
+#[derive(Clone, Copy)]
 struct Progress {
     listed: usize,
     tests: u64,
@@ -280,7 +282,7 @@ fn greedy_quads_for_face(
 }
 
 // What all faces listed and tested, and how many quads each listed.
-#[derive(Drop)]
+#[derive(Clone, Copy)]
 struct Meshed {
     listed: usize,
     tests: u64,

@@ -8,7 +8,7 @@ use voxels::index::{Stride, VoxelIndex};
 use voxels::voxel;
 
 // A rectangle, and how many voxels were tested to find it.
-#[derive(Drop)]
+#[derive(Clone, Copy)]
 pub(crate) struct FoundQuad {
     pub width: u32,
     pub height: u32,
@@ -16,7 +16,7 @@ pub(crate) struct FoundQuad {
 }
 
 // What a row walk got, and how many voxels it tested.
-#[derive(Drop)]
+#[derive(Clone, Copy)]
 pub(crate) struct RowWalk {
     pub width: u32,
     pub tests: u32,

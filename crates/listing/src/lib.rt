@@ -1,6 +1,8 @@
 // How a mesher lists what it makes into a lent buffer, and what it answers, after buffer.rs. The Rust
 // appends to vectors that grow; here groups of items lie end to end in one lent output, each item so
 // many numbers, and what does not fit is counted and not written.
+#![tactic(auto)]
+
 ghost use Rattle.std.specs.Prelude.{◌≡◌};
 ghost use Rattle.geometry.specs.Refusal as refusal;
 ghost use Rattle.listing.specs.Listing.{too_many};
@@ -11,7 +13,7 @@ ghost use Rattle.listing.specs.Outcome.{mesh_answer};
 pub const MANY_QUADS: u32 = 9;
 
 // What a mesher answers. What it reports besides stands beside this in an answer of its own.
-#[derive(Drop)]
+#[derive(Clone, Copy)]
 pub struct MeshAnswer {
     // The refusal number, or 0 where the call was accepted.
     pub refusal: u32,

@@ -8,6 +8,8 @@
 // each face and the tests. `--unit` meshes unit quads, which have a minimum alone and take no tests,
 // `--obj` prints the mesh as Wavefront OBJ text instead, and `--box` meshes a part of the block, both
 // corners included. What is wrong is said on standard error, and then nothing is printed.
+#![tactic(auto)]
+
 mod block;
 mod say;
 mod show;

@@ -5,7 +5,7 @@ use crate::say;
 use geometry::vector::UVec3;
 
 // What is asked for.
-#[derive(Drop)]
+#[derive(Clone, Copy)]
 pub struct Job {
     // Whether a word was wrong, which has been said.
     pub wrong: bool,
@@ -17,7 +17,7 @@ pub struct Job {
 }
 
 // What a word is.
-#[derive(Drop)]
+#[derive(Clone, Copy)]
 enum Word {
     Unit,
     Obj,
@@ -27,7 +27,7 @@ enum Word {
 }
 
 // What the words so far have said.
-#[derive(Drop)]
+#[derive(Clone, Copy)]
 struct Words {
     wrong: bool,
     unit: bool,

@@ -3,6 +3,8 @@
 //
 // The call promises its whole outcome for any input, by one equation with a definition of specs/, and
 // requires nothing. It checks the mesh, looks whether its text fits, and then writes it.
+#![tactic(auto)]
+
 mod measure;
 mod put;
 

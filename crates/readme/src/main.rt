@@ -1,4 +1,6 @@
 // The functions that README shows, word for word, run as a caller runs them.
+#![tactic(auto)]
+
 use geometry::axis::SignedAxis;
 use geometry::face::{Corner, OrientedBlockFace, PositionAnswer};
 use geometry::quad::{UnorientedQuad, UnorientedUnitQuad};

@@ -8,7 +8,7 @@ use geometry::vector::IVec3;
 use spunmarrow::draw;
 
 // What came of a call.
-#[derive(Drop)]
+#[derive(Clone, Copy)]
 struct Outcome {
     // Where the refusal stands in the record.
     at: usize,

@@ -8,6 +8,8 @@
 // was made. A line is printed for each difference, with the call's number in the list; then one for
 // each kind of call; and last how many calls were replayed and how many differences came out. A record
 // that is malformed is a difference.
+#![tactic(auto)]
+
 mod draw;
 mod fault;
 mod mesh;
@@ -20,7 +22,7 @@ use libc::STDIN_FILENO;
 use text::Line;
 
 // Where the reading stands.
-#[derive(Drop)]
+#[derive(Clone, Copy)]
 struct Place {
     // Where the next line starts.
     at: usize,

@@ -11,7 +11,7 @@ const MOST: usize = 4096;
 const MOST_RUNS: usize = 240;
 
 // What a record has after its voxels.
-#[derive(Drop)]
+#[derive(Clone, Copy)]
 struct Rest {
     // The lengths of what is lent.
     voxels: usize,

@@ -2,7 +2,7 @@
 use crate::fault;
 
 // A line as it was read.
-#[derive(Drop)]
+#[derive(Clone, Copy)]
 pub struct Line {
     // How many numbers it has.
     pub count: usize,
@@ -13,7 +13,7 @@ pub struct Line {
 }
 
 // A number as it was read.
-#[derive(Drop)]
+#[derive(Clone, Copy)]
 struct Number {
     // It, or `TOO_LARGE` where there is none.
     value: u64,

@@ -3,6 +3,8 @@
 // The Rust makes one pass over the voxels and appends to six vectors. Here the groups lie end to end
 // in one lent output, so a pass before it counts the quads of each face; after that it is known where
 // each group begins, and the Rust's pass writes to six places of the output.
+#![tactic(auto)]
+
 ghost use Rattle.std.specs.Prelude.{◌≡◌, length};
 ghost use Rattle.geometry.specs.Refusal.{accepted};
 ghost use Rattle.voxels.specs.Shape.{field};
@@ -65,7 +67,7 @@ fn run_starts(cursors: &mut [usize], counts: &[u64]) -> usize
 }
 
 // How many quads all faces and each face list.
-#[derive(Drop)]
+#[derive(Clone, Copy)]
 struct Meshed {
     listed: usize,
     counts: [u64; 6],

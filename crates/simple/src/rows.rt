@@ -9,7 +9,7 @@ use voxels::extent::Extent;
 use voxels::index::Stride;
 
 // Rows of voxels, a stride apart: how long each is, and how many there are.
-#[derive(Drop)]
+#[derive(Clone, Copy)]
 pub(crate) struct Rows {
     pub wide: u32,
     pub stride: Stride,
@@ -17,7 +17,7 @@ pub(crate) struct Rows {
 }
 
 // Slices of such rows, a stride apart, and how many there are.
-#[derive(Drop)]
+#[derive(Clone, Copy)]
 pub(crate) struct Slices {
     pub rows: Rows,
     pub stride: Stride,

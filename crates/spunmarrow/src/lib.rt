@@ -5,6 +5,8 @@
 // be handed in: a permutation, corner or axis number outside its range is refused by 17, before
 // anything else is looked at. Every function promises its whole outcome by one equation with a
 // definition of specs/, and requires nothing.
+#![tactic(auto)]
+
 pub mod draw;
 pub mod mesh;
 mod numbers;

@@ -14,14 +14,14 @@ use geometry::refusal::CheckAnswer;
 use geometry::vector::UVec3;
 
 // One of a quad's four corners, or the refusal number.
-#[derive(Drop)]
+#[derive(Clone, Copy)]
 pub enum CornerAnswer {
     Corner(Corner),
     Refused(u32),
 }
 
 // An axis, or the refusal number.
-#[derive(Drop)]
+#[derive(Clone, Copy)]
 pub enum AxisAnswer {
     Axis(Axis),
     Refused(u32),

@@ -21,7 +21,7 @@ use geometry::refusal::{CheckAnswer, first_refusal};
 use geometry::vector::UVec3;
 
 // What an accepted call needs of its block.
-#[derive(Drop)]
+#[derive(Clone, Copy)]
 pub struct Entry {
     // How many voxels the shape has.
     pub size: u32,
@@ -30,7 +30,7 @@ pub struct Entry {
 }
 
 // What an accepted call needs, or the refusal number and its place.
-#[derive(Drop)]
+#[derive(Clone, Copy)]
 pub enum EntryAnswer {
     Entered(Entry),
     Refused(u32, u64),

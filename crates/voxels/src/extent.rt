@@ -2,7 +2,7 @@
 use geometry::vector::UVec3;
 
 // The points from `minimum` up to `bound`, on each axis, the bound not among them.
-#[derive(Drop)]
+#[derive(Clone, Copy)]
 pub struct Extent {
     pub minimum: UVec3,
     pub bound: UVec3,

@@ -11,11 +11,11 @@ use geometry::face::OrientedBlockFace;
 use geometry::vector::UVec3;
 
 // A voxel's index.
-#[derive(Drop)]
+#[derive(Clone, Copy)]
 pub struct VoxelIndex(pub u32);
 
 // A step between two voxels: what it adds to the index.
-#[derive(Drop)]
+#[derive(Clone, Copy)]
 pub struct Stride(pub u32);
 
 // Numbers of 32 bits wrap here.

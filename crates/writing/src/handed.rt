@@ -29,7 +29,7 @@ pub const MOST_QUADS: u64 = 1073741823;
 const FIVE: usize = 5;
 
 // How many quads a mesh has, or the refusal number and its place.
-#[derive(Drop)]
+#[derive(Clone, Copy)]
 pub enum QuadsAnswer {
     Quads(u64),
     Refused(u32, u64),

@@ -6,7 +6,7 @@ ghost use Rattle.writing.specs.Written as writer;
 pub const SHORT_OUTPUT: u32 = 15;
 
 // What a writer answers.
-#[derive(Drop)]
+#[derive(Clone, Copy)]
 pub struct WriteAnswer {
     // The refusal number, or 0 where the call was accepted.
     pub refusal: u32,
