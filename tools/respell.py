@@ -60,6 +60,13 @@ def table():
     return {**turned, **{n: snake(n) for n in LOCAL}}
 
 
+def imported(text):
+    """What a file imports by name from a library that is not of this repository."""
+    own = {c.split("/")[1] for c in glob.glob("crates/*/")}
+    uses = re.findall(r"^use ([\w.+'-]+)\.\{([^}]*)\}", text, re.M)
+    return {n.strip() for m, ns in uses if not (m.startswith("Rattle.") and m.split(".")[1] in own) for n in ns.split(",")}
+
+
 def declared(path):
     return set() if is_walk(path) else set(DECLARED.findall(re.sub(r"--[^\n]*", "", read(path))))
 
@@ -97,7 +104,9 @@ def main():
     for path in files():
         # A lemma of this file that already has the name that a definition gets.
         here = {n: n + "_lem" for n in declared(path) & new}
-        put(path, of_tokens(read(path), {**turned, **here}, is_walk(path)))
+        # What this file has from a library of the kit keeps its name.
+        theirs = {n: n for n in imported(read(path))}
+        put(path, of_tokens(read(path), {**turned, **here, **theirs}, is_walk(path)))
     for path in sorted(glob.glob("crates/*/src/**/*.rt", recursive=True)):
         put(path, of_source(read(path), turned))
     for path in sorted(glob.glob("crates/*/must-fail/*.edit") + glob.glob("*.md") + glob.glob("docs/*.md") + glob.glob("docs/notes/*.md") + glob.glob("*/README.md")):

@@ -6,7 +6,7 @@ use native.Mathlib.Nat.{div-lt_self, div-add-mod', mod-lt, div-lt_iff_lt-mul, le
 use native.Mathlib.Numerals.{add-one}
 use native.Mathlib.Omega.{arith}
 use lib.Dec.{ltb}
-use lib.ListN.{length, get_or, length_append, get_or-append}
+use lib.ListN.{length, get_or, length-append, get_or-append}
 use borrow.Author.Tests.{ltb-true, ltb-false, lt-ltb, le-ltb}
 use Rattle.geometry.proofs.Refusals.{split}
 use Rattle.geometry.specs.Lists.{Each}
@@ -104,7 +104,7 @@ pub digits_some : (n : ℕ) → 1 ≤ length (digits n)
 digits_some =
     by_tenths (λ (n : ℕ). 1 ≤ length (digits n))
     (λ n h. rw (digits_one n h) (omega arith))
-    (λ n h some. rw (digits_more n h, length_append (digits (n / 10)) (glyph (n % 10) ∷ [])) (omega arith))
+    (λ n h some. rw (digits_more n h, length-append (digits (n / 10)) (glyph (n % 10) ∷ [])) (omega arith))
 
 -- The first is 48, a zero, only of 0.
 pub no_leading_zero : (n : ℕ) → get_or (digits n) 0 0 ≡ 48 → n ≡ 0
@@ -119,7 +119,7 @@ no_leading_zero =
 
 -- One more than a number's tenth has.
 pub length_more : (n : ℕ) → 10 ≤ n → length (digits n) ≡ length (digits (n / 10)) + 1
-length_more n h = rw (digits_more n h, length_append (digits (n / 10)) (glyph (n % 10) ∷ []))
+length_more n h = rw (digits_more n h, length-append (digits (n / 10)) (glyph (n % 10) ∷ []))
 
 -- At most so many below that power of ten,
 pub digits_at_most : (k n : ℕ) → n < 10 ^ suc k → length (digits n) ≤ suc k

@@ -3,7 +3,7 @@ use mathlib.Core.List.{List, [], ◌∷◌, ◌++◌, append_assoc}
 use mathlib.Core.Path.{◌≡◌, ◌∙◌, ap}
 use Prim.Native.Nat.{ℕ, ◌+◌, ◌-◌, ◌*◌, ◌/◌, ◌%◌, ◌^◌, ◌≤◌, ◌<◌}
 use native.Mathlib.Omega.{arith}
-use lib.ListN.{length, set, length_append}
+use lib.ListN.{length, set, length-append}
 use Rattle.listing.specs.Listing.{overwritten}
 use Rattle.listing.specs.Pushed.{set_all}
 use Rattle.listing.proofs.Pushed.{set_all_after, set_all_append}
@@ -72,7 +72,7 @@ set_four n at s = set_all_append s at (two_digits (n / 100)) (two_digits (n % 10
 -- Where the digits of a number's ten thousandth stand at the start, four more make them the number's.
 module _ (n : ℕ) (s : List ℕ) (h : 10000 ≤ n) {count : ℕ} (many : count ≡ length (digits (n / 10000))) {t : List ℕ} (is : t ≡ set_all s 0 (digits (n / 10000))) where
   pub four_more : count + 4 ≡ length (digits n)
-  four_more = rw (digits_and_four n h, length_append (digits (n / 10000)) (four_digits (n % 10000)), many)
+  four_more = rw (digits_and_four n h, length-append (digits (n / 10000)) (four_digits (n % 10000)), many)
 
   pub set_four_more : set_all t count (four_digits (n % 10000)) ≡ set_all s 0 (digits n)
   set_four_more =

@@ -3,7 +3,7 @@ use mathlib.Core.List.{List, ◌++◌}
 use mathlib.Core.Path.{◌≡◌, ◌∙◌, ap}
 use Prim.Native.Nat.{ℕ, ◌≤◌, ◌<◌}
 use native.Mathlib.Omega.{arith}
-use lib.ListN.{length, get_or, drop, replicate, length_append, length-drop, length-replicate, get_or-replicate, get_or-append}
+use lib.ListN.{length, get_or, drop, replicate, length-append, length-drop, length-replicate, get_or-replicate, get_or-append}
 use lib.Seq.{drop_at}
 use Rattle.listing.specs.Listing.{overwritten}
 
@@ -19,7 +19,7 @@ zeros n = length-replicate n 0
 pub cleared_length : (n : ℕ) (marks : List ℕ) → n ≤ length marks → length (overwritten (replicate n 0) marks) ≡ length marks
 unfolding overwritten
 cleared_length n marks h =
-    length_append (replicate n 0) (drop (length {A = ℕ} (replicate n 0)) marks)
+    length-append (replicate n 0) (drop (length {A = ℕ} (replicate n 0)) marks)
     ∙ rw (length-drop (length {A = ℕ} (replicate n 0)) marks, zeros n) (omega arith)
 
 -- and those past the first n;

@@ -4,7 +4,7 @@ use mathlib.Core.List.{List}
 use mathlib.Core.Logic.{⊎_elim}
 use mathlib.Core.Path.{◌≡◌, refl, sym, ◌∙◌, ap}
 use Prim.Native.Nat.{ℕ, zero, suc, ◌+◌, ◌-◌, ◌*◌, ◌≤◌, ◌<◌}
-use native.Mathlib.Nat.{add-zero, zero-mul, suc_mul, add-mul, eq-or-lt_of_le}
+use native.Mathlib.Nat.{add-zero, zero-mul, suc-mul, add-mul, eq-or-lt_of_le}
 use native.Mathlib.Omega.{arith}
 use Rattle.geometry.specs.Point.{Point}
 use Rattle.voxels.proofs.Loops.{Underway, underway_start, underway_on}
@@ -62,5 +62,5 @@ scan_idle vs c spot {now = now} {d = d} {k = k} {j = j} (suc m) l fits idle =
     let on = scan_idle vs c spot m l (omega arith) (λ h less. idle h (omega arith)) in
     let is-tests : now.tests + m + 1 ≡ now.tests + suc m = omega arith in
     let is-k : k + m + 1 ≡ k + suc m = omega arith in
-    let is-j : j + m * d + d ≡ j + suc m * d = omega (arith, suc_mul m d) in
+    let is-j : j + m * d + d ≡ j + suc m * d = omega (arith, suc-mul m d) in
     rw (is-tests, is-k, is-j) at (scan_on on (omega arith) (scanned_none vs c _ _ _ on.few (idle m (omega arith))) refl refl)

@@ -3,7 +3,7 @@ use mathlib.Core.Bool.{Bool}
 use mathlib.Core.List.{List}
 use mathlib.Core.Path.{◌≡◌, refl, ◌∙◌, ap}
 use Prim.Native.Nat.{ℕ, ◌+◌, ◌-◌, ◌*◌, ◌≤◌, ◌<◌}
-use native.Mathlib.Nat.{add-zero, zero-mul, suc_mul, mul-le-mul_right}
+use native.Mathlib.Nat.{add-zero, zero-mul, suc-mul, mul-le-mul_right}
 use native.Mathlib.Omega.{arith}
 use lib.ListN.{get_or}
 use Rattle.geometry.specs.Point.{Point}
@@ -40,7 +40,7 @@ module _ (vs marks : List ℕ) (off du dv wide high i : ℕ) {q : Pick} (is : q 
       let got : w.got ≤ wide = walked_at_most ok (step_by du) wide i in
       let each : (j : ℕ) → (walked ok (step_by du) j w.got).tests ≤ wide = λ j. omega (arith, walked_tests ok (step_by du) w.got j) in
       let rest = rows_tests (λ (j : ℕ). walked ok (step_by du) j w.got) w.got (step_by dv) wide each (high - 1) (i + dv) in
-      let whole : high * wide ≡ (high - 1) * wide + wide = ap (λ (k : ℕ). k * wide) (omega arith) ∙ suc_mul (high - 1) wide in
+      let whole : high * wide ≡ (high - 1) * wide + wide = ap (λ (k : ℕ). k * wide) (omega arith) ∙ suc-mul (high - 1) wide in
       rw is (omega (arith, walked_tests ok (step_by du) wide i))
 
 -- The marks of part of a rectangle were lent where those of the whole were.

@@ -2,10 +2,10 @@
 use mathlib.Core.List.{List, [], ◌∷◌, ◌++◌, map, append_assoc}
 use mathlib.Core.Path.{◌≡◌, refl, sym, ◌∙◌, ap}
 use Prim.Native.Nat.{ℕ, zero, suc, ◌-◌, ◌*◌, ◌≤◌, ◌<◌}
-use native.Mathlib.Nat.{zero-mul, suc_mul, div-mul-le_self}
+use native.Mathlib.Nat.{zero-mul, suc-mul, div-mul-le_self}
 use native.Mathlib.Omega.{arith}
 use lib.Dec.{ltb}
-use lib.ListN.{length, take, drop, length_append, length-drop}
+use lib.ListN.{length, take, drop, length-append, length-drop}
 use lib.Seq.{drop_at, length-take-le, take_all}
 use borrow.Author.Tests.{ltb-true, ltb-false}
 use Rattle.geometry.specs.Refusal.{answer}
@@ -74,7 +74,7 @@ module _ {A B : Type 0} (numbers : ℕ) (numbers_of : A → List ℕ) (sized : (
   all_length : (l : List A) → length (all l) ≡ length l * numbers
   unfolding joined
   all_length [] = sym (zero-mul numbers)
-  all_length (a ∷ l) = omega (arith, length_append (numbers_of a) (all l), sized a, all_length l, suc_mul (length l) numbers)
+  all_length (a ∷ l) = omega (arith, length-append (numbers_of a) (all l), sized a, all_length l, suc-mul (length l) numbers)
 
   -- What was listed stands there,
   items_back : (l : List A) (rest : List ℕ) → items_in numbers read (length l) (all l ++ rest) ≡ map item l
@@ -131,7 +131,7 @@ module _ {A B : Type 0} (numbers : ℕ) (numbers_of : A → List ℕ) (sized : (
         let short : length (take room (joined groups)) ≡ room = length-take-le room (joined groups) (omega arith) in
         let written : List ℕ = all (take room (joined groups)) in
         let fits : length written ≤ length was = omega (arith, all_length (take room (joined groups)), ap (λ (k : ℕ). k * numbers) short, div-mul-le_self (length was) numbers) in
-        let same : length out ≡ length was = rw leaves (length_append written (drop (length written) was) ∙ rw (length-drop (length written) was) (omega arith)) in
+        let same : length out ≡ length was = rw leaves (length-append written (drop (length written) was) ∙ rw (length-drop (length written) was) (omega arith)) in
         ap (λ (a : MeshAnswer). a.place) (answers ∙ ap mesh_answer (lay_many numbers numbers_of groups was many)) ∙ ap (capacity numbers) (sym same)
 
     -- and so many of the listing stand in it: "the first quads of the listing up to its capacity".

@@ -2,10 +2,10 @@
 use mathlib.Core.List.{List, [], ◌∷◌, ◌++◌, map, append_assoc}
 use mathlib.Core.Path.{◌≡◌, refl, sym, ◌∙◌, ap}
 use Prim.Native.Nat.{ℕ, zero, suc, ◌+◌, ◌*◌, ◌/◌, ◌≤◌, ◌<◌}
-use native.Mathlib.Nat.{div-mul-le_self, mul-le-mul_right, add-zero, zero-add, suc-add, add-mul, one-mul, zero-mul, suc_mul, not-suc-le-zero, mul-add-div_right, div-eq_of_lt, div-eq-sub-div, le-div_iff_mul-le}
+use native.Mathlib.Nat.{div-mul-le_self, mul-le-mul_right, add-zero, zero-add, suc-add, add-mul, one-mul, zero-mul, suc-mul, not-suc-le-zero, mul-add-div_right, div-eq_of_lt, div-eq-sub-div, le-div_iff_mul-le}
 use native.Mathlib.Omega.{arith}
 use lib.Dec.{leb, ltb}
-use lib.ListN.{length, get_or, length_append, length-drop, take, drop, set, length-set}
+use lib.ListN.{length, get_or, length-append, length-drop, take, drop, set, length-set}
 use borrow.Author.Tests.{lt-ltb, le-ltb, leb-true, leb-false, ltb-true, ltb-false}
 use Rattle.geometry.specs.Refusal.{accepted, refused, answer}
 use Rattle.geometry.proofs.Refusals.{split, applies, passes}
@@ -27,7 +27,7 @@ set_all_after (x ∷ xs) done [] h = absurd (not-suc-le-zero h)
 set_all_after (x ∷ xs) done (r ∷ rest) h =
     rw (set_after done r x rest)
     (let shift : done ++ (x ∷ rest) ≡ (done ++ (x ∷ [])) ++ rest = sym (append_assoc done (x ∷ []) rest) in
-    let next : length done + 1 ≡ length (done ++ (x ∷ [])) = sym (length_append done (x ∷ [])) in
+    let next : length done + 1 ≡ length (done ++ (x ∷ [])) = sym (length-append done (x ∷ [])) in
     rw (shift, next)
     (set_all_after xs (done ++ (x ∷ [])) rest (omega arith) ∙ append_assoc done (x ∷ []) (overwritten xs rest)))
 
@@ -42,7 +42,7 @@ drop_drop (suc k) m (a ∷ l) = rw (suc-add k m) (drop_drop k m l)
 over_over : (done first next rest : List ℕ) → (done ++ first) ++ overwritten next (drop (length first) rest) ≡ done ++ overwritten (first ++ next) rest
 unfolding overwritten
 over_over done first next rest =
-    rw (drop_drop (length first) (length next) rest, length_append first next, append_assoc first next (drop (length first + length next) rest))
+    rw (drop_drop (length first) (length next) rest, length-append first next, append_assoc first next (drop (length first + length next) rest))
     (append_assoc done first (next ++ drop (length first + length next) rest))
 
 -- Of the first so many of a list, one more is set.
@@ -73,7 +73,7 @@ set_all_length (x ∷ xs) out at = set_all_length xs (set out at x) (at + 1) ∙
 -- Where there is room for one more item of so many numbers, its numbers fit.
 pub room_enough : (n long numbers : ℕ) → n < capacity numbers long → n * numbers + numbers ≤ long
 unfolding capacity
-room_enough n long numbers h = omega (arith, div-mul-le_self long numbers, mul-le-mul_right {m = suc n} {n = long / numbers} numbers h, suc_mul n numbers)
+room_enough n long numbers h = omega (arith, div-mul-le_self long numbers, mul-le-mul_right {m = suc n} {n = long / numbers} numbers h, suc-mul n numbers)
 
 -- An item is written where there is room for it,
 pub put_room : (out item : List ℕ) (n : ℕ) → n < capacity (length item) (length out) → put out n item ≡ set_all out (n * length item) item
@@ -143,7 +143,7 @@ module _ {A : Type 0} (numbers : ℕ) (numbers_of : A → List ℕ) (some : 0 < 
   unfolding capacity overwritten
   next_written done rest n a h l =
       let fits : n < length (done ++ rest) / numbers =
-      (le-div_iff_mul-le some).1 (omega (arith, length_append done rest, suc_mul n numbers)) in
+      (le-div_iff_mul-le some).1 (omega (arith, length-append done rest, suc-mul n numbers)) in
       let set : set_all (done ++ rest) (n * numbers) (numbers_of a) ≡ done ++ overwritten (numbers_of a) rest =
       rw (← h) (set_all_after (numbers_of a) done rest (rw (sized a) l)) in
       let over : done ++ overwritten (numbers_of a) rest ≡ (done ++ numbers_of a) ++ drop numbers rest =
@@ -166,7 +166,7 @@ module _ {A : Type 0} (numbers : ℕ) (numbers_of : A → List ℕ) (some : 0 < 
       let room = leb-true numbers (length rest) t in
       let left : length rest / numbers ≡ suc (length (drop numbers rest) / numbers) =
       div-eq-sub-div some room ∙ rw (length-drop numbers rest) (omega arith) in
-      let written : length (done ++ numbers_of a) ≡ (n + 1) * numbers = omega (arith, length_append done (numbers_of a), sized a, add-mul n 1 numbers, one-mul numbers) in
+      let written : length (done ++ numbers_of a) ≡ (n + 1) * numbers = omega (arith, length-append done (numbers_of a), sized a, add-mul n 1 numbers, one-mul numbers) in
       rw (next_written done rest n a h room, left)
       (all_written l (done ++ numbers_of a) (drop numbers rest) (n + 1) written
       ∙ ap (λ (o : List ℕ). output o (n + 1 + length l)) (rw (sized a) at (over_over done (numbers_of a) (joined (map numbers_of (take (length (drop numbers rest) / numbers) l))) rest))
@@ -175,7 +175,7 @@ module _ {A : Type 0} (numbers : ℕ) (numbers_of : A → List ℕ) (some : 0 < 
       let none : length rest / numbers ≡ 0 = div-eq_of_lt (leb-false numbers (length rest) f) in
       rw none
       (all_full (a ∷ l) (done ++ rest) n
-      (omega (arith, ap (λ (k : ℕ). k / numbers) (length_append done rest ∙ ap (λ (k : ℕ). k + length rest) h), mul-add-div_right some n (length rest)))))
+      (omega (arith, ap (λ (k : ℕ). k / numbers) (length-append done rest ∙ ap (λ (k : ℕ). k + length rest) h), mul-add-div_right some n (length rest)))))
 
   -- Groups listed from the start leave what `lay` says.
   pub all_laid : (groups : List (List A)) (out : List ℕ)

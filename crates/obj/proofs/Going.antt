@@ -5,7 +5,7 @@ use mathlib.Core.Path.{◌≡◌, sym, ◌∙◌, ap}
 use Prim.Native.Nat.{ℕ, zero, suc, ◌+◌, ◌-◌, ◌*◌, ◌≤◌, ◌<◌}
 use native.Mathlib.Nat.{not-suc-le-zero, add-mul}
 use native.Mathlib.Omega.{arith}
-use lib.ListN.{length, get_or, take, drop, length_append}
+use lib.ListN.{length, get_or, take, drop, length-append}
 use lib.IntN.{pos}
 use Rattle.geometry.specs.declared.axis.AxisPermutation.TheVariants.{Xyz}
 use Rattle.geometry.specs.declared.quad.UnorientedQuad.{UnorientedQuad}
@@ -159,7 +159,7 @@ module _ {list : List ℕ} {faces : List OrientedBlockFace} {counts : List ℕ} 
       → length (left_from list faces counts first k) ≡ bytes + length (left_from list faces counts (first + get_or counts k 0) (k + 1))
   from_measured d h is =
       ap length (from_next d h)
-      ∙ length_append (group_text list (get_or faces k d) first (first * quad_numbers) (get_or counts k 0)) (left_from list faces counts (first + get_or counts k 0) (k + 1))
+      ∙ length-append (group_text list (get_or faces k d) first (first * quad_numbers) (get_or counts k 0)) (left_from list faces counts (first + get_or counts k 0) (k + 1))
       ∙ ap (λ (b : ℕ). b + length (left_from list faces counts (first + get_or counts k 0) (k + 1))) (sym is)
 
   -- and nothing at the end.

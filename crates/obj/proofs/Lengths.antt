@@ -3,7 +3,7 @@ use mathlib.Core.List.{List, [], ◌∷◌}
 use mathlib.Core.Path.{◌≡◌}
 use Prim.Native.Nat.{ℕ, ◌+◌, ◌*◌, ◌≤◌, ◌<◌}
 use native.Mathlib.Omega.{arith}
-use lib.ListN.{length, length_append}
+use lib.ListN.{length, length-append}
 use Rattle.geometry.specs.declared.axis.Axis.TheVariants.{X, Y, Z}
 use Rattle.geometry.specs.declared.face.OrientedBlockFace.{OrientedBlockFace}
 use Rattle.geometry.specs.declared.face.Corner.{Corner}
@@ -59,7 +59,7 @@ unfolding Each numbered
 quads_at_most k [] each h = omega arith
 quads_at_most k (q ∷ qs) each h =
     let (here, rest) = each in
-    omega (arith, length_append (quad_text k q) (numbered quad_text (k + 1) qs), quad_at_most k q here (omega arith), quads_at_most (k + 1) qs rest (omega arith))
+    omega (arith, length-append (quad_text k q) (numbered quad_text (k + 1) qs), quad_at_most k q here (omega arith), quads_at_most (k + 1) qs rest (omega arith))
 
 -- A text has at most 7 bytes, and 138 more a quad.
 pub length_at_most : (qs : List OrientedQuad) → Each WithinQuad qs → length qs ≤ most_quads → length (text qs) ≤ most_bytes (length qs)

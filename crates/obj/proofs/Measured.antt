@@ -7,7 +7,7 @@ use Prim.Native.Nat.{ℕ, ◌+◌, ◌*◌}
 use native.Mathlib.Nat.{add_comm, add_assoc}
 use native.Mathlib.Omega.{arith}
 use lib.IntN.{◌*ℤ◌}
-use lib.ListN.{length, length_append}
+use lib.ListN.{length, length-append}
 use Rattle.geometry.specs.declared.axis.Axis.{Axis}
 use Rattle.geometry.specs.declared.axis.Axis.TheVariants.{X, Y, Z}
 use Rattle.geometry.specs.declared.quad.UnorientedQuad.{UnorientedQuad}
@@ -51,17 +51,17 @@ line_long letter a b c =
     rw (line_bytes letter a b c)
     (omega (
       arith,
-      length_append (ended a space) (ended b space ++ ended c line_feed),
-      length_append (ended b space) (ended c line_feed),
-      length_append (digits a) (space ∷ []),
-      length_append (digits b) (space ∷ []),
-      length_append (digits c) (line_feed ∷ []),
+      length-append (ended a space) (ended b space ++ ended c line_feed),
+      length-append (ended b space) (ended c line_feed),
+      length-append (digits a) (space ∷ []),
+      length-append (digits b) (space ∷ []),
+      length-append (digits c) (line_feed ∷ []),
     ))
 
 -- Lines have the first's bytes and those of the others.
 lines_long : (l : Line) (ls : List Line) → length (bytes_of (l ∷ ls)) ≡ length (bytes l) + length (bytes_of ls)
 unfolding joined
-lines_long l ls = length_append (bytes l) (bytes_of ls)
+lines_long l ls = length-append (bytes l) (bytes_of ls)
 
 no_lines : length (bytes_of []) ≡ 0
 unfolding joined
@@ -135,4 +135,4 @@ quad_cut_in_two k q = joined_append bytes (corner_lines q) (triangle_lines k q)
 
 -- and so many.
 pub quad_long : (k : ℕ) (q : OrientedQuad) → length (quad_text k q) ≡ length (bytes_of (corner_lines q)) + length (bytes_of (triangle_lines k q))
-quad_long k q = ap length (quad_cut_in_two k q) ∙ length_append (bytes_of (corner_lines q)) (bytes_of (triangle_lines k q))
+quad_long k q = ap length (quad_cut_in_two k q) ∙ length-append (bytes_of (corner_lines q)) (bytes_of (triangle_lines k q))

@@ -4,7 +4,7 @@ use mathlib.Core.Path.{◌≡◌, sym, ◌∙◌, ap}
 use Prim.Native.Nat.{ℕ, ◌+◌, ◌≤◌, ◌<◌}
 use native.Mathlib.Nat.{add-zero}
 use native.Mathlib.Omega.{arith}
-use lib.ListN.{length, length_append, take, get_or, set}
+use lib.ListN.{length, length-append, take, get_or, set}
 use lib.Seq.{take_all}
 use Rattle.listing.specs.Listing.{overwritten}
 use Rattle.listing.specs.Pushed.{set_all}
@@ -15,7 +15,7 @@ use Rattle.obj.specs.Page.{Page, page, put, Wrote, Room}
 put_put : (p : Page) (a b : List ℕ) → put (put p a) b ≡ put p (a ++ b)
 unfolding put
 put_put p a b =
-    let sum : p.at + length a + length b ≡ p.at + length (a ++ b) = omega (arith, length_append a b) in
+    let sum : p.at + length a + length b ≡ p.at + length (a ++ b) = omega (arith, length-append a b) in
     rw (set_all_append p.out p.at a b, sum)
 
 -- No bytes.
@@ -46,11 +46,11 @@ wrote_as {a} {b} {out} {at} e w = record { is = w.is ∙ ap (put (page out at)) 
 
 -- Where there is room for two lots there is room for the first,
 pub room_first : {a out : List ℕ} {at : ℕ} (b : List ℕ) → Room (a ++ b) out at → Room a out at
-room_first {a} b h = record { fits = omega (arith, h.fits, length_append a b) }
+room_first {a} b h = record { fits = omega (arith, h.fits, length-append a b) }
 
 -- and once that is written for the second.
 pub room_second : {a out : List ℕ} {at : ℕ} {out' : List ℕ} {at' : ℕ} (b : List ℕ) → Room (a ++ b) out at → Wrote a out at out' at' → Room b out' at'
-room_second {a} b h w = record { fits = omega (arith, h.fits, length_append a b, wrote_at w, wrote_length w) }
+room_second {a} b h w = record { fits = omega (arith, h.fits, length-append a b, wrote_at w, wrote_length w) }
 
 -- The same bytes, said otherwise.
 pub room_as : {a b out : List ℕ} {at : ℕ} → a ≡ b → Room a out at → Room b out at
@@ -112,5 +112,5 @@ pub byte_after : (new out : List ℕ) (at b : ℕ) → Wrote (new ++ (b ∷ []))
 unfolding put set_all
 byte_after new out at b =
     let one : set_all (set_all out at new) (at + length new) (b ∷ []) ≡ set_all out at (new ++ (b ∷ [])) = set_all_append out at new (b ∷ []) in
-    let sum : at + length new + 1 ≡ at + length (new ++ (b ∷ [])) = omega (arith, length_append new (b ∷ [])) in
+    let sum : at + length new + 1 ≡ at + length (new ++ (b ∷ [])) = omega (arith, length-append new (b ∷ [])) in
     record { is = rw sum (ap (λ (o : List ℕ). page o (at + length (new ++ (b ∷ [])))) one) }

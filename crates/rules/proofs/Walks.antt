@@ -2,7 +2,7 @@
 use mathlib.Core.Bool.{Bool, true, false}
 use mathlib.Core.Path.{◌≡◌, refl, sym, ◌∙◌, ap}
 use Prim.Native.Nat.{ℕ, zero, suc, ◌+◌, ◌*◌, ◌≤◌}
-use native.Mathlib.Nat.{suc_mul}
+use native.Mathlib.Nat.{suc-mul}
 use native.Mathlib.Omega.{arith}
 use lib.Dec.{eqb}
 use borrow.Author.Tests.{eq-eqb, ne_eqb, eqb-true, eqb-false}
@@ -66,8 +66,8 @@ module _ {A : Type 0} (row : A → Walked) (width : ℕ) (next : A → A) where
   rows_tests most h zero a = omega arith
   rows_tests most h (suc n) a =
       split (eqb (row a).got width)
-      (λ t. rw (t, walked_rows) (omega (arith, h a, rows_tests most h n (next a), suc_mul n most)))
-      (λ f. rw (f, walked_rows) (omega (arith, h a, suc_mul n most)))
+      (λ t. rw (t, walked_rows) (omega (arith, h a, rows_tests most h n (next a), suc-mul n most)))
+      (λ f. rw (f, walked_rows) (omega (arith, h a, suc-mul n most)))
 
 -- ---- two walks hand in hand
 

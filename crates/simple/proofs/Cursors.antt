@@ -3,7 +3,7 @@ use mathlib.Core.List.{List, [], ◌∷◌, ◌++◌}
 use mathlib.Core.Path.{◌≡◌, refl, sym, ◌∙◌, ap}
 use Prim.Native.Nat.{ℕ, suc, ◌+◌, ◌-◌, ◌≤◌, ◌<◌}
 use native.Mathlib.Omega.{arith}
-use lib.ListN.{length, get_or, set, length_append}
+use lib.ListN.{length, get_or, set, length-append}
 use Rattle.geometry.specs.Point.{Point}
 use Rattle.voxels.specs.Loop.{in_step, Stand, stand, on_by}
 use Rattle.voxels.proofs.Loops.{both_start, both_next, loop_none, sums_join, underway_whole}
@@ -102,7 +102,7 @@ module _ {d : ℕ} {g : ℕ → ℕ → ℕ → List Point} {size : ℕ → ℕ 
             in_step_length d (g f) (size f) (sized f) n a i,
             in_step_length d (g f) (size f) (sized f) (n - k) (a + k) j,
             ap length (left_next h f),
-            length_append (g f (a + k) j) (in_step d (g f) (a + (k + 1)) (j + d) (n - (k + 1))),
+            length-append (g f (a + k) j) (in_step d (g f) (a + (k + 1)) (j + d) (n - (k + 1))),
           )
 
       -- and so does the next turn's part of it.

@@ -2,7 +2,7 @@
 use mathlib.Core.List.{List}
 use mathlib.Core.Path.{◌≡◌, ap}
 use Prim.Native.Nat.{ℕ, zero, suc, ◌+◌, ◌-◌, ◌*◌, ◌≤◌, ◌<◌}
-use native.Mathlib.Nat.{add-zero, add_assoc, zero-add, zero-mul, suc_mul, mul-le-mul_right}
+use native.Mathlib.Nat.{add-zero, add_assoc, zero-add, zero-mul, suc-mul, mul-le-mul_right}
 use native.Mathlib.Omega.{arith}
 use lib.Dec.{ltb}
 use borrow.Author.Tests.{ltb-true, ltb-false}
@@ -63,8 +63,8 @@ join_ready {vs} {o} {i} {wide} m some short good first last =
 rows_good : (vs : List ℕ) (i wide gap d : ℕ) → d ≡ wide + gap → (h : ℕ) → ((k : ℕ) → k ≤ h → NoneBad vs (i + k * d) wide) → ((k : ℕ) → k < h → NoneBad vs (i + k * d + wide) gap) → NoneBad vs i (h * d + wide)
 rows_good vs i wide gap d is zero each between = rw (zero-mul, zero-add) (rw (zero-mul, add-zero) at (each 0 (omega arith)))
 rows_good vs i wide gap d is (suc h) each between =
-    let long : h * d + wide + gap + wide ≡ suc h * d + wide = omega (arith, suc_mul h d) in
-    let next : i + suc h * d ≡ i + (h * d + wide + gap) = omega (arith, suc_mul h d) in
+    let long : h * d + wide + gap + wide ≡ suc h * d + wide = omega (arith, suc-mul h d) in
+    let next : i + suc h * d ≡ i + (h * d + wide + gap) = omega (arith, suc-mul h d) in
     rw (← long)
     (join_good vs i (h * d + wide + gap) wide
     (join_good vs i (h * d + wide) gap (rows_good vs i wide gap d is h (λ k l. each k (omega arith)) (λ k l. between k (omega arith))) (rw add_assoc at (between h (omega arith))))
@@ -72,7 +72,7 @@ rows_good vs i wide gap d is (suc h) each between =
 
 -- The run of rows is no longer than the rows with what follows each.
 pub long_at_most : (wide d high : ℕ) → wide ≤ d → (high ≡ 0 → ⊥) → (high - 1) * d + wide ≤ high * d
-long_at_most wide d high apart some = let all : high ≡ suc (high - 1) = omega arith in omega (arith, suc_mul (high - 1) d, ap (λ (n : ℕ). n * d) all)
+long_at_most wide d high apart some = let all : high ≡ suc (high - 1) = omega arith in omega (arith, suc-mul (high - 1) d, ap (λ (n : ℕ). n * d) all)
 
 -- ---- rows two voxels apart
 
@@ -105,7 +105,7 @@ module _ {rows : Rows} {long : ℕ} (flat : Flat rows long) where
 
   -- The k-th voxels between the rows, and those after them, lie in the run.
   between_in : (k n : ℕ) → k < gaps → n ≤ d → wide + k * d + n ≤ long
-  between_in k n h l = omega (arith, flat.is, suc_mul k d, mul-le-mul_right {m = suc k} {n = gaps} d (omega arith))
+  between_in k n h l = omega (arith, flat.is, suc-mul k d, mul-le-mul_right {m = suc k} {n = gaps} d (omega arith))
 
   -- So those between the rows are ready.
   pub between_ready : {vs : List ℕ} {o i : ℕ} → RowsReady vs o i rows → RowsReady vs o (i + wide) (gaps_of rows)

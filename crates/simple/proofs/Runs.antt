@@ -2,7 +2,7 @@
 use mathlib.Core.List.{List, [], ◌∷◌, ◌++◌, map}
 use mathlib.Core.Path.{◌≡◌, refl, sym, ◌∙◌, ap}
 use Prim.Native.Nat.{ℕ, zero, suc, ◌+◌, ◌*◌, ◌≤◌, ◌<◌}
-use native.Mathlib.Nat.{suc_mul, mul-le-mul_right, not-suc-le-zero}
+use native.Mathlib.Nat.{suc-mul, mul-le-mul_right, not-suc-le-zero}
 use native.Mathlib.Omega.{arith}
 use lib.Dec.{ltb, eqb}
 use lib.ListN.{length, get_or, set, take}
@@ -52,7 +52,7 @@ put_past out item next p q same h =
     let fits = ltb-true q room t in
     let before-item : capacity (length item) (length out) ≡ room = ap (λ (n : ℕ). capacity n (length out)) same in
     let after_next : capacity (length item) (length (put out q next)) ≡ capacity (length item) (length out) = ap (capacity (length item)) (put_length out next q) in
-    let apart : p * length item + length item ≤ q * length next = omega (arith, suc_mul p (length item), mul-le-mul_right {m = suc p} {n = q} (length item) (omega arith), ap (λ (n : ℕ). q * n) same) in
+    let apart : p * length item + length item ≤ q * length next = omega (arith, suc-mul p (length item), mul-le-mul_right {m = suc p} {n = q} (length item) (omega arith), ap (λ (n : ℕ). q * n) same) in
     put_room (put out q next) item p (omega arith)
     ∙ ap (λ (o : List ℕ). set_all o (p * length item) item) (put_room out next q fits)
     ∙ set_all_past next item out (p * length item) (q * length next) apart

@@ -3,7 +3,7 @@ use mathlib.Core.Bool.{Bool, true, false}
 use mathlib.Core.List.{List}
 use mathlib.Core.Path.{◌≡◌, refl}
 use Prim.Native.Nat.{ℕ, zero, suc, ◌+◌, ◌*◌, ◌≤◌, ◌<◌}
-use native.Mathlib.Nat.{zero-add, suc-add, zero-mul, suc_mul, mul-one, mul-le-mul_left}
+use native.Mathlib.Nat.{zero-add, suc-add, zero-mul, suc-mul, mul-one, mul-le-mul_left}
 use native.Mathlib.Omega.{arith}
 use lib.ListN.{length, get_or}
 use Rattle.geometry.specs.Axes.{bit}
@@ -29,7 +29,7 @@ pub flat_sum : (g : ℕ → ℕ) (wide gap d : ℕ) → d ≡ wide + gap → (h 
 unfolding looped
 flat_sum g wide gap d is zero i = rw (zero-mul, zero-add) (omega arith)
 flat_sum g wide gap d is (suc h) i =
-    let long : suc h * d + wide ≡ wide + (gap + (h * d + wide)) = omega (arith, suc_mul h d) in
+    let long : suc h * d + wide ≡ wide + (gap + (h * d + wide)) = omega (arith, suc-mul h d) in
     let next : i + wide + gap ≡ i + d = omega arith in
     let after : i + wide + d ≡ i + d + wide = omega arith in
     rw (long, loop_parts sums_join (step_by 1) g wide (gap + (h * d + wide)) i, loop_parts sums_join (step_by 1) g gap (h * d + wide), onward_by, onward_by, mul-one, mul-one, next, suc-add h 1, after, flat_sum g wide gap d is h (i + d)) (omega arith)

@@ -3,7 +3,7 @@ use mathlib.Core.List.{List, [], ◌∷◌, map}
 use mathlib.Core.Path.{◌≡◌, refl, sym, ◌∙◌, ap}
 use Prim.Native.Nat.{ℕ, zero, suc, ◌+◌, ◌*◌, ◌%◌, ◌≤◌, ◌<◌}
 use native.Mathlib.Omega.{arith}
-use lib.ListN.{length, length_map, get_or, replicate}
+use lib.ListN.{length, length-map, get_or, replicate}
 use lib.Seq.{ext_get_or}
 use lib.Dec.{eqb}
 use borrow.Author.Tests.{eqb-true, eqb-false}
@@ -104,8 +104,8 @@ module _ {vs : List ℕ} {shape : Point} {inner : Extent} {faces : List Oriented
     unfolding unit_groups
     counts_are =
         let group : OrientedBlockFace → List Point = unit_group inner (field shape vs) in
-        let long : length (map group faces) ≡ 6 = length_map faces group ∙ m.six in
-        ext_get_or 0 counts _ (counted.all ∙ sym (length_map (map group faces) length ∙ long))
+        let long : length (map group faces) ≡ 6 = length-map faces group ∙ m.six in
+        ext_get_or 0 counts _ (counted.all ∙ sym (length-map (map group faces) length ∙ long))
         (λ f h.
         let below : f < 6 = omega (arith, counted.all) in
         count_at f below ∙ sym (shown f) ∙ ap length (group_at f below)

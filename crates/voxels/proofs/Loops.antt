@@ -1,5 +1,5 @@
 -- Loops: where one stands, and the laws of the one fold `looped`, whatever it joins. Lists end to end, sums, and what is done to a state are its instances.
-use Rattle.std.proofs.Common.{◌≡◌, ℕ, zero, suc, ◌+◌, ◌-◌, ◌*◌, ◌<◌, ◌≤◌, List, [], ◌++◌, length, sym, refl, ap, ◌∙◌, append_assoc, append-nil, not-suc-le-zero, add-zero, add_assoc, add-le-add, mul-le-mul_right, suc_mul, add-mul, suc-add, one-mul, zero-add, zero-mul, arith, length_append}
+use Rattle.std.proofs.Common.{◌≡◌, ℕ, zero, suc, ◌+◌, ◌-◌, ◌*◌, ◌<◌, ◌≤◌, List, [], ◌++◌, length, sym, refl, ap, ◌∙◌, append_assoc, append-nil, not-suc-le-zero, add-zero, add_assoc, add-le-add, mul-le-mul_right, suc-mul, add-mul, suc-add, one-mul, zero-add, zero-mul, arith, length-append}
 use native.Mathlib.Nat.{sub-zero}
 use Rattle.voxels.specs.Loop.{looped, step_by, Stand, stand, on_by, and_next, steps}
 
@@ -57,7 +57,7 @@ onward next p (suc k) = onward next (next p) k
 pub onward_by : (d i k : ℕ) → onward (step_by d) i k ≡ i + k * d
 unfolding onward
 onward_by d i zero = omega (arith, zero-mul d)
-onward_by d i (suc k) = onward_by d (i + d) k ∙ omega (arith, suc_mul k d)
+onward_by d i (suc k) = onward_by d (i + d) k ∙ omega (arith, suc-mul k d)
 
 -- and with a coordinate beside the index that is k further.
 pub onward_both : (d a i k : ℕ) → onward (on_by d) (stand a i) k ≡ stand (a + k) (i + k * d)
@@ -65,7 +65,7 @@ unfolding onward
 onward_both d a i zero = rw (zero-mul, add-zero, add-zero)
 onward_both d a i (suc k) =
     let x : a + 1 + k ≡ a + suc k = omega arith in
-    let y : i + d + k * d ≡ i + suc k * d = omega (arith, suc_mul k d) in
+    let y : i + d + k * d ≡ i + suc k * d = omega (arith, suc-mul k d) in
     rw (← x, ← y) (onward_both d (a + 1) (i + d) k)
 
 -- ---- what is left of a loop, k of n done
@@ -173,7 +173,7 @@ module _ {B : Type 0} {none : B} {join : B → B → B} (joins : Joins none join
 -- Lists end to end are as long as each is, summed.
 pub loop_length : {P Q A : Type 0} (next : P → P) (g : P → List A) (next' : Q → Q) (h : Q → ℕ) (n : ℕ) (p : P) (q : Q)
     → ((k : ℕ) → k < n → length (g (onward next p k)) ≡ h (onward next' q k)) → length (looped [] ◌++◌ next g p n) ≡ looped 0 ◌+◌ next' h q n
-loop_length = loop_carried ◌+◌ length refl length_append
+loop_length = loop_carried ◌+◌ length refl length-append
 
 -- ---- sums
 
@@ -182,7 +182,7 @@ module _ {P : Type 0} (next : P → P) where
   pub sum_constant : (m n : ℕ) (p : P) → looped 0 ◌+◌ next (λ (q : P). m) p n ≡ n * m
   unfolding looped
   sum_constant m zero p = omega arith
-  sum_constant m (suc n) p = omega (arith, sum_constant m n (next p), suc_mul n m)
+  sum_constant m (suc n) p = omega (arith, sum_constant m n (next p), suc-mul n m)
 
   -- and a sum of numbers that are at most so much is at most that.
   pub sum_at_most : (g : P → ℕ) (most n : ℕ) (p : P) → ((p : P) → g p ≤ most) → looped 0 ◌+◌ next g p n ≤ n * most

@@ -1,5 +1,5 @@
 -- A check of each voxel of the box as its reader has it: its place is the lowest index of a voxel that it applies to, and where nothing is refused it applies to none. Refusal 8 is such a check.
-use Rattle.std.proofs.Common.{◌≡◌, ℕ, zero, suc, ◌+◌, ◌-◌, ◌*◌, ◌<◌, ◌≤◌, true, false, List, [], ◌∷◌, ◌++◌, map, get_or, sym, refl, ◌∙◌, mul-le-mul_right, suc_mul, mul_comm, mul-one, arith}
+use Rattle.std.proofs.Common.{◌≡◌, ℕ, zero, suc, ◌+◌, ◌-◌, ◌*◌, ◌<◌, ◌≤◌, true, false, List, [], ◌∷◌, ◌++◌, map, get_or, sym, refl, ◌∙◌, mul-le-mul_right, suc-mul, mul_comm, mul-one, arith}
 use mathlib.Core.Bool.{false≢true}
 use borrow.Author.Tests.{eqb-false}
 use Rattle.geometry.specs.declared.axis.Axis.TheVariants.{X, Y, Z}
@@ -42,7 +42,7 @@ ascend_every : (d : ℕ) (g : ℕ → List Check) → ((i : ℕ) → Ascend i (i
 unfolding looped
 ascend_every d g h zero a = omega arith
 ascend_every d g h (suc n) a =
-    let e : a + d + n * d ≡ a + suc n * d = omega (arith, suc_mul n d) in
+    let e : a + d + n * d ≡ a + suc n * d = omega (arith, suc-mul n d) in
     ascend_append a (a + d) (a + suc n * d) (g a) (every d (a + d) n g) (h a) (rw e at (ascend_every d g h n (a + d)))
 
 -- What is gathered in a row of voxels does, and in rows that are not wider than their stride, and in slices whose rows are not more than theirs.

@@ -3,10 +3,10 @@
 use mathlib.Core.List.{List, [], ◌∷◌, map}
 use mathlib.Core.Path.{◌≡◌, refl, ◌∙◌, ap}
 use Prim.Native.Nat.{ℕ, ◌+◌, ◌*◌, ◌≤◌}
-use native.Mathlib.Nat.{le_of_eq, mul-le-mul, suc_mul, le-div_iff_mul-le}
+use native.Mathlib.Nat.{le_of_eq, mul-le-mul, suc-mul, le-div_iff_mul-le}
 use native.Mathlib.Omega.{arith}
 use lib.Dec.{ltb}
-use lib.ListN.{length, take, drop, length_append, length-drop, length_map}
+use lib.ListN.{length, take, drop, length-append, length-drop, length-map}
 use contract.Lifetimes
 use borrow.Author.Tests.{ltb-true, ltb-false}
 use borrow.Fn.World
@@ -60,7 +60,7 @@ use Rattle.writing.proofs.Ordered.{passed_order}
 module _ (f : OrientedBlockFace) (v : Field) (e : Extent) (choice : Choice) where
   scanned_few : (s : State) (p : Point) → length (scanned f v e choice s p).quads ≤ length s.quads + 1
   unfolding scanned
-  scanned_few s p = split (passes f v s.quads p) (λ t. rw (t, scanned) (le_of_eq (length_append s.quads _))) (λ n. rw (n, scanned) (omega arith))
+  scanned_few s p = split (passes f v s.quads p) (λ t. rw (t, scanned) (le_of_eq (length-append s.quads _))) (λ n. rw (n, scanned) (omega arith))
 
   swept_few : (s : State) (ps : List Point) → length (swept f v e choice s ps).quads ≤ length s.quads + length ps
   unfolding swept
@@ -89,18 +89,18 @@ listed_few inner v [] = omega arith
 listed_few inner v (f ∷ faces) =
     omega (
       arith,
-      length_append (listed_group inner v f) (joined (listed_groups inner v faces)),
-      length_map (greedy_group inner v f).quads listed,
+      length-append (listed_group inner v f) (joined (listed_groups inner v faces)),
+      length-map (greedy_group inner v f).quads listed,
       group_few f v inner,
       listed_few inner v faces,
-      suc_mul (length faces) (points inner),
+      suc-mul (length faces) (points inner),
     )
 
 -- The lists' lengths sum to that of all of them.
 total_joined : {A : Type 0} (ls : List (List A)) → total (map length ls) ≡ length (joined ls)
 unfolding total joined
 total_joined [] = refl
-total_joined (l ∷ ls) = omega (arith, length_append l (joined ls), total_joined ls)
+total_joined (l ∷ ls) = omega (arith, length-append l (joined ls), total_joined ls)
 
 -- ---- that each is within the limits
 
@@ -154,7 +154,7 @@ module _ (voxels : List ℕ) (shape min max : Point) (faces : List OrientedBlock
   holds =
       let (fits, all) = fitted in
       let new : List ℕ = joined (map numbers_of (take (capacity quad_numbers (length was)) (joined groups))) in
-      let longer : length was ≤ length out = rw (ap (λ (o : MeshOutcome). o.out) laid_is) (omega (arith, length_append new (drop (length new) was), length-drop (length new) was)) in
+      let longer : length was ≤ length out = rw (ap (λ (o : MeshOutcome). o.out) laid_is) (omega (arith, length-append new (drop (length new) was), length-drop (length new) was)) in
       (le-div_iff_mul-le {k = quad_numbers} (omega arith)).1 (omega (arith, group_held quad_numbers (length was) (total r.mesh.counts) (omega arith)))
 
   -- They are at most as many as six shapes have voxels,

@@ -4,8 +4,8 @@ use mathlib.Core.Path.{◌≡◌, refl, sym, ◌∙◌, ap}
 use Prim.Native.Nat.{ℕ, zero, suc, ◌+◌, ◌-◌, ◌*◌, ◌/◌, ◌≤◌, ◌<◌}
 use native.Mathlib.Nat.{mul-le-mul_right, div-mul-le_self, add-mul, zero-mul, div-le_self}
 use native.Mathlib.Omega.{arith}
-use lib.ListN.{length, get_or, take, drop, length_append, drop_of_length-le}
-use lib.Seq.{drop_drop, get_or-take}
+use lib.ListN.{length, get_or, take, drop, length-append, drop_of_length-le}
+use lib.Seq.{drop-drop, get_or-take}
 use Rattle.geometry.specs.declared.face.OrientedBlockFace.{OrientedBlockFace}
 use Rattle.voxels.proofs.Asked.{drop_next}
 use Rattle.listing.specs.Listing.{capacity}
@@ -37,7 +37,7 @@ module _ (numbers : ℕ) (list : List ℕ) (face : OrientedBlockFace) where
   unfolding quads_left items_in
   quads_next at k count h =
       let more : count - k ≡ suc (count - (k + 1)) = omega arith in
-      rw (more, drop_drop numbers at list)
+      rw (more, drop-drop numbers at list)
 
   -- at the end there is none;
   pub quads_done : (at k count : ℕ) → count ≤ k → quads_left numbers list face at (count - k) ≡ []
@@ -48,7 +48,7 @@ module _ (numbers : ℕ) (list : List ℕ) (face : OrientedBlockFace) where
   pub quads_count : (at count : ℕ) → length (quads_left numbers list face at count) ≡ count
   unfolding quads_left items_in
   quads_count at zero = refl
-  quads_count at (suc count) = ap suc (rw (drop_drop numbers at list) (quads_count (at + numbers) count))
+  quads_count at (suc count) = ap suc (rw (drop-drop numbers at list) (quads_count (at + numbers) count))
 
 -- Where a loop over a group stands that begins after so many quads of the mesh: k of its quads are done, and the next stands in the list from that number on.
 pub record InGroup (numbers first count k at : ℕ) : Type 0 where
@@ -97,7 +97,7 @@ module _ (numbers : ℕ) (list : List ℕ) where
       ≡ quads_left numbers list (get_or faces k d) at (get_or counts k 0) ++ mesh_left numbers list (at + get_or counts k 0 * numbers) (drop (k + 1) faces) (drop (k + 1) counts)
   unfolding mesh_left quads_left oriented groups_in
   mesh_next at k faces counts d hf hc =
-      rw (drop_next faces k d hf, drop_next counts k 0 hc, drop_drop (get_or counts k 0 * numbers) at list)
+      rw (drop_next faces k d hf, drop_next counts k 0 hc, drop-drop (get_or counts k 0 * numbers) at list)
 
   -- At the end there is none.
   pub mesh_done : (at k : ℕ) (faces : List OrientedBlockFace) (counts : List ℕ) → length faces ≤ k → mesh_left numbers list at (drop k faces) (drop k counts) ≡ []
@@ -118,7 +118,7 @@ handed_count numbers (face ∷ faces) [] list h = let none : ⊥ = omega arith i
 handed_count numbers (face ∷ faces) (count ∷ counts) list h =
     omega (
       arith,
-      length_append (on_face face (items_in numbers quad_from count list)) (handed numbers faces counts (drop (count * numbers) list)),
+      length-append (on_face face (items_in numbers quad_from count list)) (handed numbers faces counts (drop (count * numbers) list)),
       quads_count numbers list face 0 count,
       handed_count numbers faces counts (drop (count * numbers) list) (omega arith),
     )

@@ -3,7 +3,7 @@ use borrow.Author.Rules.{rules}
 use mathlib.Core.Path.{◌≡◌, ◌∙◌, ap}
 use Prim.Native.Nat.{◌+◌, ◌-◌, ◌*◌, ◌≤◌}
 use native.Mathlib.Omega.{arith}
-use lib.ListN.{length, length_append}
+use lib.ListN.{length, length-append}
 use Rattle.greedy.specs.Greedy.{quad_numbers}
 use Rattle.obj.specs.Text.{quad_text}
 use Rattle.obj.specs.Page.{on, group_text}
@@ -35,7 +35,7 @@ next c =
     let a = c.before.before.before.before.before.before.args in
     let l = c.before.before.before.before.loop in
     rw (left_next a.quads.now a.face a.first a.count l.k l.from c.before.before.before.loop-test.true (read c.before), c.quad.ensures)
-    (length_append (quad_text (a.first + l.k) (on a.face c.before.quad_from.result)) (left a.quads.now a.face a.first a.count (l.k + 1) (l.from + quad_numbers)))
+    (length-append (quad_text (a.first + l.k) (on a.face c.before.quad_from.result)) (left a.quads.now a.face a.first a.count (l.k + 1) (l.from + quad_numbers)))
 
 mul-from : tie.Need-overflow-mul-from invariant-loop decreases-loop
 mul-from c = search rules

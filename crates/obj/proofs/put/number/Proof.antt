@@ -4,7 +4,7 @@ use mathlib.Core.List.{[], ◌∷◌}
 use mathlib.Core.Path.{◌≡◌}
 use Prim.Native.Nat.{◌+◌, ◌≤◌}
 use native.Mathlib.Omega.{arith}
-use lib.ListN.{length, length_append}
+use lib.ListN.{length, length-append}
 use Rattle.digits.specs.Decimal.{digits}
 use Rattle.digits.proofs.Written.{spelled_many, spelled_from}
 use Rattle.listing.proofs.Pushed.{set_all_length}
@@ -14,7 +14,7 @@ use Rattle.obj.proofs.put.number.Tie as tie
 
 -- There is room for the digits, and for the byte after them.
 room : (c : tie.Start) → c.args.at + length (digits c.args.n) + 1 ≤ length c.args.out.now
-room c = omega (arith, c.requires.fits, length_append (digits c.args.n) (c.args.end ∷ []))
+room c = omega (arith, c.requires.fits, length-append (digits c.args.n) (c.args.end ∷ []))
 
 -- So many digits are spelled,
 many : (c : tie.After-spell) → c.spell.result ≡ length (digits c.before.before.before.args.n)

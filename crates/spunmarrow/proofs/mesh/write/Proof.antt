@@ -1,6 +1,6 @@
 -- `write` meets its contract: six counts are all that their list has.
 use borrow.Author.Rules.{rules}
-use lib.ListN.{length_map}
+use lib.ListN.{length-map}
 use Rattle.spunmarrow.proofs.Nine.{written_nine}
 use Rattle.spunmarrow.proofs.mesh.write.Statement.{statement}
 use Rattle.spunmarrow.proofs.mesh.write.Tie as tie
@@ -30,7 +30,7 @@ cast-number : tie.Need-overflow-cast-number
 cast-number c = search rules
 
 returns : tie.Need-returns
-returns c = written_nine (entry c).args.mesh _ (simp length_map at (entry c).well-formed.1.0.1.1.1.1.0.1.0.1)
+returns c = written_nine (entry c).args.mesh _ (simp length-map at (entry c).well-formed.1.0.1.1.1.1.0.1.0.1)
 
 pub write_spec : {M : Type 1} → statement M
 write_spec =

@@ -1,0 +1,12 @@
+use Rattle.std.proofs.Common.{◌≡◌, ◌-◌, ◌≤◌, length, drop, sym, refl, ap, ◌∙◌, arith}
+use Rattle.geometry.specs.Answers.{check_meaning}
+use Rattle.geometry.specs.Refusal.{checked}
+use Rattle.voxels.specs.Checks.{bad_faces_from, bad_faces}
+use Rattle.voxels.proofs.Asked.{face_on, face_stops, face_done}
+use Rattle.voxels.proofs.bounds.check_faces.Given as goal
+
+abbrev pub invariant-loop-k : goal.invariant-loop-k
+invariant-loop-k l = (l.k ≤ 6) × (length l.faces ≡ 6) × (checked (bad_faces_from l.k (drop l.k l.faces)) ≡ checked (bad_faces l.faces))
+
+abbrev pub decreases-loop-k : goal.decreases-loop-k
+decreases-loop-k l = 6 - l.k

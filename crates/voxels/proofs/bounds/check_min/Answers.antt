@@ -1,0 +1,7 @@
+-- `check_min` meets its contract.
+use Rattle.geometry.specs.Point.{along}
+use Rattle.voxels.proofs.bounds.check_min.Goals as goal
+
+pub returns : goal.returns
+unfolding along
+returns c = c.check_axes.ensures

@@ -1,0 +1,14 @@
+use Rattle.std.proofs.Common.{◌≡◌, ◌-◌, sym, ap, ◌∙◌, arith}
+use Rattle.geometry.specs.Refusal.{checked}
+use Rattle.geometry.specs.Answers.{check_meaning}
+use Rattle.voxels.specs.Loop.{every}
+use Rattle.voxels.specs.Rows.{bad_at, rows, slices}
+use Rattle.voxels.proofs.Asked.{ask_start, ask_on, ask_stops, ask_done}
+use Rattle.voxels.proofs.Loops.{Underway, underway_start, underway_on, next_fits}
+use Rattle.voxels.proofs.bounds.check_slices.Given as goal
+
+abbrev pub invariant-loop-k : goal.invariant-loop-k
+invariant-loop-k l = Underway l.step l.initial.i l.deep l.k l.i × (checked (every l.step l.i (l.deep - l.k) (rows (bad_at l.voxels) l.wide l.y_stride.0 l.high)) ≡ checked (slices (bad_at l.voxels) l.wide l.y_stride.0 l.high l.step l.deep l.initial.i))
+
+abbrev pub decreases-loop-k : goal.decreases-loop-k
+decreases-loop-k l = l.deep - l.k

@@ -1,0 +1,13 @@
+use Rattle.std.proofs.Common.{◌≡◌, ◌-◌, ◌≤◌, arith}
+use native.Mathlib.Nat.{add-sub_cancel_left}
+use Rattle.geometry.specs.Refusal.{checked}
+use Rattle.voxels.specs.Loop.{every}
+use Rattle.voxels.specs.Rows.{bad_at, row}
+use Rattle.voxels.proofs.Asked.{ask_on, ask_stops, ask_done, good_here, bad_here}
+use Rattle.voxels.proofs.bounds.first_bad.Given as goal
+
+abbrev pub invariant-loop-i : goal.invariant-loop-i
+invariant-loop-i l = (l.i ≤ l.end) × (l.initial.i ≤ l.i) × (checked (every 1 l.i (l.end - l.i) (bad_at l.voxels)) ≡ checked (row (bad_at l.voxels) l.wide l.initial.i))
+
+abbrev pub decreases-loop-i : goal.decreases-loop-i
+decreases-loop-i l = l.end - l.i
