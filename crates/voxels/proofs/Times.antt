@@ -82,7 +82,7 @@ module _ (p : Point) where
       rw (off a other) (zero-add (times p (every 1 (a + 1) n g)) ∙ times_one g q off n (a + 1) (omega arith) (omega arith)))
     where
       times_past : (g : ℕ → List Point) (q : ℕ) → ((k : ℕ) → (k ≡ q → ⊥) → times p (g k) ≡ 0) → (n a : ℕ) → q < a → times p (every 1 a n g) ≡ 0
-      times_past g q off n a h = loop_keeps (λ (l : List Point). times p l ≡ 0) refl (λ l m first rest. rw (times_append l m, first, rest)) (step_by 1) g n a (λ k l. rw (onward_by 1 a k) (off _ (λ e. omega arith)))
+      times_past g q off n a h = loop_keeps {join = ◌++◌} (λ (l : List Point). times p l ≡ 0) refl (λ l m first rest. rw (times_append l m, first, rest)) (step_by 1) g n a (λ k l. rw (onward_by 1 a k) (off _ (λ e. omega arith)))
 
   -- A row, and rows, that lie elsewhere do not have the point.
   other_x : (x y z : ℕ) → (x ≡ p.x → ⊥) → times p (at x y z ∷ []) ≡ 0

@@ -24,3 +24,7 @@ overflow_add-y c = let s = c.args in let h = c.requires in record { fits = omega
 pub overflow_add-z : goal.overflow_add-z
 unfolding along
 overflow_add-z c = let s = c.args in let h = c.requires in record { fits = omega (arith, h.spans Z, h.within Z, axis_small s.voxels_shape _ s.min s.max h Z) }
+
+pub returns : goal.returns
+unfolding size
+returns c = refl

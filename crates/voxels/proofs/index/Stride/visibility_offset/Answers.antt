@@ -8,4 +8,4 @@ pub returns-then-sign-gt0 : goal.returns-then-sign-gt0
 returns-then-sign-gt0 c = let s = c.args.face.n_sign in offset_up s _ (positive_bits s c.struct_told-1.given.0.1 c.if-sign-gt0.true)
 
 pub returns : goal.returns
-returns c = let s = c.args.face.n_sign in offset_down s _ _ (positive_bits s c.struct_told-1.given.0.1 c.if-sign-gt0.false) (search rules) (search rules) c.wrapping_sub_u32.ensures
+returns c = let s = c.args.face.n_sign in offset_down s _ _ (positive_bits s c.struct_told-1.given.0.1 c.if-sign-gt0.false) (search rules) (search rules) c.wrapping_sub_u32.ensures.value
