@@ -1,13 +1,13 @@
 -- `group` meets its contract: what is measured, and what is left, are all of it.
 use Rattle.std.proofs.Common.{rules}
 use mathlib.Core.Path.{◌≡◌, ◌∙◌, ap}
-use Prim.Native.Nat.{◌+◌, ◌-◌, ◌*◌, ◌≤◌}
+use Prim.Native.Nat.{◌+◌, ◌≤◌}
 use native.Mathlib.Omega.{arith}
 use lib.ListN.{length, length-append}
 use Rattle.greedy.specs.Greedy.{quad_numbers}
 use Rattle.obj.specs.Text.{quad_text}
-use Rattle.obj.specs.Page.{on, group_text}
-use Rattle.obj.proofs.Going.{Going, quad_at, left, group_at_most, going_start, going_drawable, going_few, going_held, going_on, left_start, left_next, left_done, quad_read}
+use Rattle.obj.specs.Page.{on}
+use Rattle.obj.proofs.Going.{quad_at, left, group_at_most, going_start, going_drawable, going_few, going_held, going_on, left_start, left_next, left_done, quad_read}
 use Rattle.obj.proofs.measure.group.Goals as goal
 use Rattle.obj.proofs.measure.group.Goals.{After-quad-length, After-quad_from, In-loop-k}
 

@@ -1,11 +1,9 @@
-use mathlib.Core.Path.{◌≡◌, ◌∙◌, ap}
-use Prim.Native.Nat.{◌+◌, ◌-◌, ◌*◌, ◌≤◌}
-use native.Mathlib.Omega.{arith}
-use lib.ListN.{length, length-append}
+use mathlib.Core.Path.{◌≡◌}
+use Prim.Native.Nat.{◌+◌, ◌-◌, ◌*◌}
+use lib.ListN.{length}
 use Rattle.greedy.specs.Greedy.{quad_numbers}
-use Rattle.obj.specs.Text.{quad_text}
-use Rattle.obj.specs.Page.{on, group_text}
-use Rattle.obj.proofs.Going.{Going, quad_at, left, group_at_most, going_start, going_drawable, going_few, going_held, going_on, left_start, left_next, left_done, quad_read}
+use Rattle.obj.specs.Page.{group_text}
+use Rattle.obj.proofs.Going.{Going, left}
 use Rattle.obj.proofs.measure.group.Given as goal
 
 abbrev pub invariant-loop-k : goal.invariant-loop-k

@@ -1,15 +1,12 @@
 -- `mesh` meets its contract: what is measured, and what is left, are all of the text.
 use Rattle.std.proofs.Common.{rules}
 use mathlib.Core.Path.{◌≡◌, sym, ◌∙◌, ap}
-use Prim.Native.Nat.{◌+◌, ◌-◌, ◌≤◌}
+use Prim.Native.Nat.{◌+◌}
 use native.Mathlib.Omega.{arith}
 use lib.ListN.{length, get_or}
-use Rattle.writing.specs.Handed.{total}
 use Rattle.writing.proofs.Ordered.{order_passed}
-use Rattle.obj.specs.Obj.{obj_text}
-use Rattle.obj.specs.Statements.{most_bytes}
 use Rattle.obj.proofs.Lengths.{handed_at_most}
-use Rattle.obj.proofs.Going.{Meshing, left_from, meshing_start, meshing_ready, meshing_on, meshing_few, text_start, from_measured, from_done}
+use Rattle.obj.proofs.Going.{left_from, meshing_start, meshing_ready, meshing_on, meshing_few, text_start, from_measured, from_done}
 use Rattle.obj.proofs.measure.mesh.Goals as goal
 use Rattle.obj.proofs.measure.mesh.Goals.{After-group-length}
 

@@ -1,13 +1,10 @@
-use mathlib.Core.Path.{◌≡◌, sym, ◌∙◌, ap}
+use mathlib.Core.Path.{◌≡◌}
 use Prim.Native.Nat.{◌+◌, ◌-◌, ◌≤◌}
-use native.Mathlib.Omega.{arith}
-use lib.ListN.{length, get_or}
+use lib.ListN.{length}
 use Rattle.writing.specs.Handed.{total}
-use Rattle.writing.proofs.Ordered.{order_passed}
 use Rattle.obj.specs.Obj.{obj_text}
 use Rattle.obj.specs.Statements.{most_bytes}
-use Rattle.obj.proofs.Lengths.{handed_at_most}
-use Rattle.obj.proofs.Going.{Meshing, left_from, meshing_start, meshing_ready, meshing_on, meshing_few, text_start, from_measured, from_done}
+use Rattle.obj.proofs.Going.{Meshing, left_from}
 use Rattle.obj.proofs.measure.mesh.Given as goal
 
 abbrev pub invariant-loop-k : goal.invariant-loop-k

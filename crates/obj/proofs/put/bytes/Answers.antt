@@ -1,8 +1,8 @@
 -- `bytes` meets its contract: the first k are written.
 use mathlib.Core.Path.{◌≡◌, refl, ◌∙◌, ap}
-use Prim.Native.Nat.{◌+◌, ◌-◌, ◌≤◌}
+use Prim.Native.Nat.{◌+◌}
 use native.Mathlib.Omega.{arith}
-use lib.ListN.{length, get_or, take, set}
+use lib.ListN.{length, get_or, set}
 use Rattle.listing.specs.Pushed.{set_all}
 use Rattle.listing.proofs.Pushed.{set_all_length}
 use Rattle.obj.proofs.Page.{bytes_next, bytes_done}

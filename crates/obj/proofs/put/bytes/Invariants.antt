@@ -1,10 +1,7 @@
-use mathlib.Core.Path.{◌≡◌, refl, ◌∙◌, ap}
-use Prim.Native.Nat.{◌+◌, ◌-◌, ◌≤◌}
-use native.Mathlib.Omega.{arith}
-use lib.ListN.{length, get_or, take, set}
+use mathlib.Core.Path.{◌≡◌}
+use Prim.Native.Nat.{◌-◌, ◌≤◌}
+use lib.ListN.{length, take}
 use Rattle.listing.specs.Pushed.{set_all}
-use Rattle.listing.proofs.Pushed.{set_all_length}
-use Rattle.obj.proofs.Page.{bytes_next, bytes_done}
 use Rattle.obj.proofs.put.bytes.Given as goal
 
 abbrev pub invariant-loop-k : goal.invariant-loop-k

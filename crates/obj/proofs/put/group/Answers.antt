@@ -2,14 +2,14 @@
 use Rattle.std.proofs.Common.{rules}
 use mathlib.Core.List.{◌++◌}
 use mathlib.Core.Path.{◌≡◌, ◌∙◌}
-use Prim.Native.Nat.{◌+◌, ◌-◌, ◌*◌, ◌≤◌}
+use Prim.Native.Nat.{◌+◌, ◌≤◌}
 use native.Mathlib.Omega.{arith}
 use lib.ListN.{length}
 use Rattle.greedy.specs.Greedy.{quad_numbers}
 use Rattle.obj.specs.Text.{quad_text}
-use Rattle.obj.specs.Page.{on, group_text}
-use Rattle.obj.proofs.Going.{Going, quad_at, left, going_start, going_drawable, going_few, going_held, going_on, left_start, left_next, left_done, quad_read}
-use Rattle.obj.proofs.Page.{Leads, leads_start, leads_on, leads_done, leads_length, leads_room, room_first, room_as}
+use Rattle.obj.specs.Page.{on}
+use Rattle.obj.proofs.Going.{quad_at, left, going_start, going_drawable, going_few, going_held, going_on, left_start, left_next, left_done, quad_read}
+use Rattle.obj.proofs.Page.{leads_start, leads_on, leads_done, leads_length, leads_room, room_first, room_as}
 use Rattle.obj.proofs.put.group.Goals as goal
 use Rattle.obj.proofs.put.group.Goals.{After-quad_from, In-loop-k}
 

@@ -1,13 +1,8 @@
-use mathlib.Core.List.{◌++◌}
-use mathlib.Core.Path.{◌≡◌, ◌∙◌}
-use Prim.Native.Nat.{◌+◌, ◌-◌, ◌*◌, ◌≤◌}
-use native.Mathlib.Omega.{arith}
-use lib.ListN.{length}
+use Prim.Native.Nat.{◌-◌, ◌*◌}
 use Rattle.greedy.specs.Greedy.{quad_numbers}
-use Rattle.obj.specs.Text.{quad_text}
-use Rattle.obj.specs.Page.{on, group_text}
-use Rattle.obj.proofs.Going.{Going, quad_at, left, going_start, going_drawable, going_few, going_held, going_on, left_start, left_next, left_done, quad_read}
-use Rattle.obj.proofs.Page.{Leads, leads_start, leads_on, leads_done, leads_length, leads_room, room_first, room_as}
+use Rattle.obj.specs.Page.{group_text}
+use Rattle.obj.proofs.Going.{Going, left}
+use Rattle.obj.proofs.Page.{Leads}
 use Rattle.obj.proofs.put.group.Given as goal
 
 abbrev pub invariant-loop-k : goal.invariant-loop-k

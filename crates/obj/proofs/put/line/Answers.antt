@@ -1,6 +1,5 @@
 -- `line` meets its contract: its start and its three numbers are written one after another.
-use mathlib.Core.List.{List, ◌++◌}
-use Prim.Native.Nat.{ℕ}
+use mathlib.Core.List.{◌++◌}
 use Rattle.obj.specs.Text.{space, line_feed}
 use Rattle.obj.specs.Page.{ended}
 use Rattle.obj.proofs.Page.{wrote_both, room_first, room_second}

@@ -2,14 +2,14 @@
 use Rattle.std.proofs.Common.{rules}
 use mathlib.Core.List.{◌++◌}
 use mathlib.Core.Path.{refl, sym, ◌∙◌}
-use Prim.Native.Nat.{◌+◌, ◌-◌, ◌*◌}
+use Prim.Native.Nat.{◌+◌, ◌*◌}
 use native.Mathlib.Omega.{arith}
 use lib.ListN.{get_or}
 use Rattle.greedy.specs.Greedy.{quad_numbers}
 use Rattle.obj.specs.Text.{first_line}
 use Rattle.obj.specs.Page.{group_text, Room}
-use Rattle.obj.proofs.Page.{Leads, leads_start, leads_on, leads_done, leads_length, leads_room, room_first, room_second, room_as, wrote_both, wrote_as, wrote_length}
-use Rattle.obj.proofs.Going.{Meshing, left_from, meshing_start, meshing_ready, meshing_on, meshing_few, text_start, from_next, from_done}
+use Rattle.obj.proofs.Page.{leads_start, leads_on, leads_done, leads_length, leads_room, room_first, room_second, room_as, wrote_both, wrote_as, wrote_length}
+use Rattle.obj.proofs.Going.{left_from, meshing_start, meshing_ready, meshing_on, meshing_few, text_start, from_next, from_done}
 use Rattle.obj.proofs.put.mesh.Goals as goal
 use Rattle.obj.proofs.put.mesh.Goals.{Start}
 

@@ -1,11 +1,8 @@
 -- `check_faces` meets its contract: the faces that are left decide as all do.
 use Rattle.std.proofs.Common.{rules}
-use mathlib.Core.Path.{◌≡◌, refl, ap}
-use Prim.Native.Nat.{◌-◌, ◌≤◌}
+use mathlib.Core.Path.{refl, ap}
 use native.Mathlib.Omega.{arith}
-use Rattle.geometry.specs.Refusal.{checked}
 use Rattle.geometry.specs.Answers.{permutation_meaning}
-use Rattle.voxels.specs.Loop.{every}
 use Rattle.voxels.proofs.Asked.{ask_done}
 use Rattle.spunmarrow.specs.Faces.{bad_number, bad_numbers}
 use Rattle.spunmarrow.proofs.Six.{face_on, face_stops}

@@ -10,8 +10,7 @@ use Rattle.geometry.specs.Answers.{check_meaning}
 use Rattle.geometry.specs.Checks.{bad_quad}
 use Rattle.greedy.specs.Call.{quad_from}
 use Rattle.writing.specs.Handed.{bad_quad_at}
-use Rattle.writing.specs.Left.{group_left}
-use Rattle.writing.proofs.Rest.{InGroup, in_start, in_on, quad_held, group_held, capacity_most, group_start, quad_cut}
+use Rattle.writing.proofs.Rest.{in_start, in_on, quad_held, group_held, capacity_most, group_start, quad_cut}
 use Rattle.writing.proofs.Checking.{quad_on, quad_stops, quads_pass}
 use Rattle.writing.proofs.handed.check_group.Goals as goal
 use Rattle.writing.proofs.handed.check_group.Goals.{After-check_quad, In-loop-k}

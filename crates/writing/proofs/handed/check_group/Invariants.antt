@@ -1,16 +1,9 @@
-use mathlib.Core.List.{[], ◌∷◌}
-use mathlib.Core.Path.{◌≡◌, sym, ◌∙◌, ap}
-use Prim.Native.Nat.{◌+◌, ◌-◌, ◌*◌, ◌≤◌}
-use native.Mathlib.Omega.{arith}
-use lib.ListN.{length, drop}
+use mathlib.Core.Path.{◌≡◌}
+use Prim.Native.Nat.{◌+◌, ◌-◌, ◌*◌}
 use Rattle.geometry.specs.Refusal.{checked}
-use Rattle.geometry.specs.Answers.{check_meaning}
-use Rattle.geometry.specs.Checks.{bad_quad}
-use Rattle.greedy.specs.Call.{quad_from}
 use Rattle.writing.specs.Handed.{bad_quad_at}
 use Rattle.writing.specs.Left.{group_left}
-use Rattle.writing.proofs.Rest.{InGroup, in_start, in_on, quad_held, group_held, capacity_most, group_start, quad_cut}
-use Rattle.writing.proofs.Checking.{quad_on, quad_stops, quads_pass}
+use Rattle.writing.proofs.Rest.{InGroup}
 use Rattle.writing.proofs.handed.check_group.Given as goal
 
 abbrev pub invariant-loop-k : goal.invariant-loop-k

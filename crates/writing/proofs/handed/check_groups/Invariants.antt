@@ -1,13 +1,9 @@
-use mathlib.Core.Path.{◌≡◌, sym, ◌∙◌, ap}
+use mathlib.Core.Path.{◌≡◌}
 use Prim.Native.Nat.{◌-◌}
-use native.Mathlib.Omega.{arith}
-use lib.ListN.{length}
 use Rattle.geometry.specs.Refusal.{checked}
-use Rattle.geometry.specs.Answers.{check_meaning}
 use Rattle.writing.specs.Handed.{bad_quad_at, bad_quads, handed}
 use Rattle.writing.specs.Left.{groups_from}
-use Rattle.writing.proofs.Rest.{Walking, walking_start, walking_most, walking_on, groups_start, capacity_most}
-use Rattle.writing.proofs.Checking.{group_on, group_stops, groups_pass}
+use Rattle.writing.proofs.Rest.{Walking}
 use Rattle.writing.proofs.handed.check_groups.Given as goal
 
 abbrev pub invariant-loop-k : goal.invariant-loop-k

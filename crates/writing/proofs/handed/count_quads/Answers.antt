@@ -1,7 +1,5 @@
 -- `count_quads` meets its contract: each count is taken off what is left of the room.
-use Prim.Native.Nat.{◌-◌}
-use native.Mathlib.Omega.{arith}
-use Rattle.writing.proofs.Taking.{Taking, taking_start, taking_past, taking_on, taking_done}
+use Rattle.writing.proofs.Taking.{taking_start, taking_past, taking_on, taking_done}
 use Rattle.writing.proofs.handed.count_quads.Goals as goal
 
 pub loop-k-init : goal.loop-k-init

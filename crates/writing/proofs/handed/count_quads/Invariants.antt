@@ -1,6 +1,5 @@
 use Prim.Native.Nat.{◌-◌}
-use native.Mathlib.Omega.{arith}
-use Rattle.writing.proofs.Taking.{Taking, taking_start, taking_past, taking_on, taking_done}
+use Rattle.writing.proofs.Taking.{Taking}
 use Rattle.writing.proofs.handed.count_quads.Given as goal
 
 abbrev pub invariant-loop-k : goal.invariant-loop-k
