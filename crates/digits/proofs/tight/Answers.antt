@@ -1,0 +1,26 @@
+-- `tight` meets its contract. Its loop writes the digits from the last to the first: those to come, before those written, are the number's.
+use mathlib.Core.List.{◌++◌}
+use mathlib.Core.Path.{◌≡◌, refl, ◌∙◌}
+use Prim.Native.Nat.{◌≤◌}
+use native.Mathlib.Omega.{arith}
+use lib.ListN.{length, drop, length-set}
+use Rattle.digits.specs.Decimal.{digits}
+use Rattle.digits.proofs.Written.{last_digits, writing_starts, writing_on, writing_done, spelled_short, spelled_fits}
+use Rattle.digits.proofs.tight.Goals as goal
+
+pub returns-then-out-count : goal.returns-then-out-count
+returns-then-out-count c = spelled_short _ _ (omega arith)
+
+pub loop-at-init : goal.loop-at-init
+loop-at-init c = (omega arith, refl, writing_starts _ _ _ c.places-count.ensures)
+
+pub loop-at-preserved : goal.loop-at-preserved
+loop-at-preserved c =
+    let l = c.loop-at in
+    (omega arith, simp length-set l.invariant.1, writing_on l.at l.rest l.out c.loop-at-test.true (omega arith) ∙ l.invariant.2)
+
+pub shape_of-out : goal.shape_of-out
+shape_of-out c = c.loop-at.invariant.1
+
+pub returns : goal.returns
+returns c = spelled_fits _ _ _ c.places-count.ensures (omega arith) (writing_done _ _ _ _ (omega arith) c.loop-at.invariant.2)

@@ -1,0 +1,10 @@
+use Prim.Native.Nat.{◌-◌}
+use native.Mathlib.Omega.{arith}
+use Rattle.greedy.proofs.Six.{SixMeshing, six_start, six_room, six_more, six_on, six_done}
+use Rattle.greedy.proofs.mesh_faces.Given as goal
+
+abbrev pub invariant-loop-k : goal.invariant-loop-k
+invariant-loop-k l = SixMeshing l.voxels l.voxels_shape l.interior l.faces l.initial.visited l.initial.out l.visited l.out l.counts l.listed l.tests l.k
+
+abbrev pub decreases-loop-k : goal.decreases-loop-k
+decreases-loop-k l = 6 - l.k

@@ -1,0 +1,14 @@
+use borrow.Author.Fill.{fill_more}
+use mathlib.Core.List.{◌++◌}
+use mathlib.Core.Path.{◌≡◌, refl}
+use Prim.Native.Nat.{◌-◌, ◌≤◌}
+use native.Mathlib.Omega.{arith}
+use lib.ListN.{length, length-set, drop, replicate}
+use Rattle.greedy.proofs.Cleared.{cleared}
+use Rattle.greedy.proofs.visited.clear.Given as goal
+
+abbrev pub invariant-loop-i : goal.invariant-loop-i
+invariant-loop-i l = (l.i ≤ l.size) × (length l.visited ≡ length l.initial.visited) × (l.visited ≡ replicate l.i 0 ++ drop l.i l.initial.visited)
+
+abbrev pub decreases-loop-i : goal.decreases-loop-i
+decreases-loop-i l = l.size - l.i

@@ -1,0 +1,14 @@
+use mathlib.Core.Path.{◌≡◌, refl}
+use Prim.Native.Nat.{◌+◌, ◌-◌}
+use native.Mathlib.Omega.{arith}
+use lib.ListN.{length, length-set}
+use Rattle.voxels.specs.Loop.{steps}
+use Rattle.voxels.proofs.Loops.{Underway, underway_start, underway_on, next_fits, steps_start, steps_on, steps_done}
+use Rattle.greedy.specs.Marks.{mark_at, mark_row_at}
+use Rattle.greedy.proofs.visited.mark_row.Given as goal
+
+abbrev pub invariant-loop-k : goal.invariant-loop-k
+invariant-loop-k l = Underway l.step l.initial.i l.width l.k l.i × (length l.visited ≡ length l.initial.visited) × (steps l.step mark_at l.visited (0 + l.k) l.i (l.width - l.k) ≡ steps l.step mark_at l.initial.visited 0 l.initial.i l.width)
+
+abbrev pub decreases-loop-k : goal.decreases-loop-k
+decreases-loop-k l = l.width - l.k

@@ -1,0 +1,15 @@
+use mathlib.Core.Path.{sym, ◌∙◌, ap}
+use Prim.Native.Nat.{ℕ, ◌+◌, ◌-◌}
+use native.Mathlib.Omega.{arith}
+use lib.ListN.{get_or}
+use Rattle.simple.specs.Ready.{offset_of}
+use Rattle.simple.specs.Count.{row_shown}
+use Rattle.simple.proofs.Totals.{row_at_most}
+use Rattle.simple.proofs.Sixes.{Growing, growing_start, growing_room, growing_on, growing_done}
+use Rattle.simple.proofs.count.count_runs.Given as goal
+
+abbrev pub invariant-loop-f : goal.invariant-loop-f
+invariant-loop-f l = Growing l.initial.counts l.counts (λ (g : ℕ). row_shown l.voxels (offset_of l.strides g) l.long l.at.0 - get_or l.less g 0) l.f
+
+abbrev pub decreases-loop-f : goal.decreases-loop-f
+decreases-loop-f l = 6 - l.f

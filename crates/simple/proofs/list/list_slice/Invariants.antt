@@ -1,0 +1,18 @@
+use mathlib.Core.Path.{sym, ◌∙◌}
+use Prim.Native.Nat.{ℕ, ◌-◌}
+use native.Mathlib.Omega.{arith}
+use Rattle.geometry.specs.Point.{at}
+use Rattle.voxels.proofs.Loops.{next_fits}
+use Rattle.simple.specs.Ready.{offset_of, RowReady}
+use Rattle.simple.specs.Count.{row_shown}
+use Rattle.simple.specs.List.{row_quads, rows_quads}
+use Rattle.simple.proofs.Totals.{row_at_most, row_length}
+use Rattle.simple.proofs.Counting.{rows_can, counting_can}
+use Rattle.simple.proofs.Cursors.{Listing, runs_start, runs_apart, runs_on, runs_done}
+use Rattle.simple.proofs.list.list_slice.Given as goal
+
+abbrev pub invariant-loop-k : goal.invariant-loop-k
+invariant-loop-k l = Listing l.step (λ (f y : ℕ). row_quads l.voxels (offset_of l.strides f) l.wide (at l.minimum.x y l.minimum.z)) (λ (f : ℕ). row_shown l.voxels (offset_of l.strides f) l.wide) l.minimum.y l.initial.i l.high l.initial.out l.initial.cursors l.out l.cursors l.k l.i
+
+abbrev pub decreases-loop-k : goal.decreases-loop-k
+decreases-loop-k l = l.high - l.k
