@@ -19,7 +19,7 @@ use Rattle.voxels.specs.Entered.{most_voxels, Entered}
 use Rattle.voxels.proofs.Places.{index_below}
 use Rattle.voxels.proofs.Entered.{below, entered_stride, minimum_index, bound_within, bound_small, inner_in_shape, inner_beyond}
 use Rattle.listing.specs.Listing.{overwritten}
-use Rattle.listing.specs.Pushed.{output, pushed_all}
+use Rattle.listing.specs.Pushed.{pushed_all}
 use Rattle.rules.specs.Group.{fresh, room_u, room_v, visited}
 use Rattle.rules.proofs.Spread.{spread, spread_n, spread_u, spread_v, spread_index, spread_inside}
 use Rattle.greedy.specs.Walks.{Touches}

@@ -9,7 +9,7 @@ use lib.ListN.{length}
 use Rattle.geometry.specs.Point.{Point}
 use Rattle.voxels.specs.Loop.{steps}
 use Rattle.voxels.proofs.Loops.{Underway, underway_start, underway_on, underway_done, stride_more, stride_fits, steps_start, steps_on, steps_done}
-use Rattle.listing.specs.Pushed.{Output, output, pushed}
+use Rattle.listing.specs.Pushed.{Output, pushed}
 use Rattle.listing.proofs.Pushed.{pushed_counts}
 use Rattle.rules.specs.Group.{Pick, quad_of}
 use Rattle.greedy.specs.Greedy.{listed, quad_numbers, numbers_of}

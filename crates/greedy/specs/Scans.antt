@@ -3,7 +3,7 @@ use Rattle.std.specs.Prelude.{true, false, List, ◌≡◌, ℕ, ◌+◌, ◌-�
 use Rattle.geometry.specs.declared.axis.Axis.{Axis}
 use Rattle.geometry.specs.declared.face.OrientedBlockFace.{OrientedBlockFace}
 use Rattle.geometry.specs.Point.{Point, along}
-use Rattle.voxels.specs.Shape.{size, stride, field}
+use Rattle.voxels.specs.Shape.{size, field}
 use Rattle.voxels.specs.Visible.{modulus}
 use Rattle.voxels.specs.Entered.{most_voxels, longest, Entered}
 use Rattle.voxels.specs.Loop.{steps}

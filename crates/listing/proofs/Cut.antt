@@ -8,7 +8,6 @@ use lib.Dec.{ltb}
 use lib.ListN.{length, take, drop, length-append, length-drop}
 use lib.Seq.{drop_at, length-take-le, take_all}
 use borrow.Author.Tests.{ltb-true, ltb-false}
-use Rattle.geometry.specs.Refusal.{answer}
 use Rattle.geometry.specs.Lists.{Each}
 use Rattle.geometry.proofs.Refusals.{split}
 use Rattle.listing.specs.declared.MeshAnswer.{MeshAnswer}

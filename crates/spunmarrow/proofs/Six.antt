@@ -69,7 +69,7 @@ none_or (pos k) e =
 module _ (numbers : List ℤ) (k : ℕ) {x : Answer AxisPermutation} (fits : mag (number_at numbers k) < 2 ^ hbits w32)
     (read : x ≡ signed_permutation (to_z w32 (of_z w32 (number_at numbers k)))) where
   read_is : x ≡ signed_permutation (number_at numbers k)
-  read_is = read ∙ ap signed_permutation (to_z-of_z (sfits_of {z = number_at numbers k} fits))
+  read_is = read ∙ ap signed_permutation (to_z-of_z {w = w32} (sfits_of {w = w32} {z = number_at numbers k} fits))
 
   -- The check of six faces goes on after a face that has a permutation, and stops at one that has none.
   module _ {t : Answer (Unit {0})} (left : checked (every 1 k (6 - k) (bad_number numbers)) ≡ t) (h : k < 6) where

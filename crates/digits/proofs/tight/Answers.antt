@@ -1,11 +1,8 @@
 -- `tight` meets its contract. Its loop writes the digits from the last to the first: those to come, before those written, are the number's.
-use mathlib.Core.List.{◌++◌}
-use mathlib.Core.Path.{◌≡◌, refl, ◌∙◌}
-use Prim.Native.Nat.{◌≤◌}
+use mathlib.Core.Path.{refl, ◌∙◌}
 use native.Mathlib.Omega.{arith}
-use lib.ListN.{length, drop, length-set}
-use Rattle.digits.specs.Decimal.{digits}
-use Rattle.digits.proofs.Written.{last_digits, writing_starts, writing_on, writing_done, spelled_short, spelled_fits}
+use lib.ListN.{length-set}
+use Rattle.digits.proofs.Written.{writing_starts, writing_on, writing_done, spelled_short, spelled_fits}
 use Rattle.digits.proofs.tight.Goals as goal
 
 pub returns-then-out-count : goal.returns-then-out-count

@@ -1,10 +1,9 @@
 use mathlib.Core.List.{◌++◌}
-use mathlib.Core.Path.{◌≡◌, refl, ◌∙◌}
+use mathlib.Core.Path.{◌≡◌}
 use Prim.Native.Nat.{◌≤◌}
-use native.Mathlib.Omega.{arith}
-use lib.ListN.{length, drop, length-set}
+use lib.ListN.{length, drop}
 use Rattle.digits.specs.Decimal.{digits}
-use Rattle.digits.proofs.Written.{last_digits, writing_starts, writing_on, writing_done, spelled_short, spelled_fits}
+use Rattle.digits.proofs.Written.{last_digits}
 use Rattle.digits.proofs.tight.Given as goal
 
 abbrev pub invariant-loop-at : goal.invariant-loop-at

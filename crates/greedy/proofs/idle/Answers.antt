@@ -1,8 +1,7 @@
 -- `idle` meets its contract: all that were passed need no mesh.
-use Prim.Native.Nat.{◌-◌}
 use native.Mathlib.Omega.{arith}
 use Rattle.voxels.proofs.Loops.{next_fits}
-use Rattle.greedy.proofs.Passing.{Passing, pass_start, pass_on, pass_stops, pass_done}
+use Rattle.greedy.proofs.Passing.{pass_start, pass_on, pass_stops, pass_done}
 use Rattle.greedy.proofs.idle.Goals as goal
 
 pub loop-k-init : goal.loop-k-init

@@ -1,7 +1,5 @@
 use Prim.Native.Nat.{◌-◌}
-use native.Mathlib.Omega.{arith}
-use Rattle.voxels.proofs.Loops.{next_fits}
-use Rattle.greedy.proofs.Passing.{Passing, pass_start, pass_on, pass_stops, pass_done}
+use Rattle.greedy.proofs.Passing.{Passing}
 use Rattle.greedy.proofs.idle.Given as goal
 
 abbrev pub invariant-loop-k : goal.invariant-loop-k

@@ -1,7 +1,6 @@
 -- `mesh_faces` meets its contract: face after face is meshed.
-use Prim.Native.Nat.{◌-◌}
 use native.Mathlib.Omega.{arith}
-use Rattle.greedy.proofs.Six.{SixMeshing, six_start, six_room, six_more, six_on, six_done}
+use Rattle.greedy.proofs.Six.{six_start, six_room, six_more, six_on, six_done}
 use Rattle.greedy.proofs.mesh_faces.Goals as goal
 
 pub loop-k-init : goal.loop-k-init

@@ -1,6 +1,5 @@
 use Prim.Native.Nat.{◌-◌}
-use native.Mathlib.Omega.{arith}
-use Rattle.greedy.proofs.Six.{SixMeshing, six_start, six_room, six_more, six_on, six_done}
+use Rattle.greedy.proofs.Six.{SixMeshing}
 use Rattle.greedy.proofs.mesh_faces.Given as goal
 
 abbrev pub invariant-loop-k : goal.invariant-loop-k

@@ -1,11 +1,7 @@
-use Prim.Native.Nat.{ℕ, ◌+◌, ◌-◌, ◌*◌, ◌<◌}
-use native.Mathlib.Omega.{arith}
-use lib.ListN.{length}
-use Rattle.voxels.proofs.Loops.{index_fits, next_fits}
+use Prim.Native.Nat.{ℕ, ◌-◌}
 use Rattle.greedy.specs.Spans.{spot}
-use Rattle.greedy.specs.Scans.{Scanned, progress, scanned_at, row_along, RowScan, voxel_tests, row_tests, RoomFor}
-use Rattle.greedy.proofs.Scanning.{Scanning, scan_start, scan_tests, scan_room, scan_on, scan_done, scanned_laid}
-use Rattle.greedy.proofs.Passing.{rest_ready, scan_idle}
+use Rattle.greedy.specs.Scans.{Scanned, progress, scanned_at, voxel_tests}
+use Rattle.greedy.proofs.Scanning.{Scanning}
 use Rattle.greedy.proofs.scan_row.Given as goal
 
 abbrev pub invariant-loop-k : goal.invariant-loop-k

@@ -1,10 +1,10 @@
 -- `scan_slice` meets its contract: what is scanned and what is left make the whole slice.
-use Prim.Native.Nat.{ℕ, ◌-◌}
+use Prim.Native.Nat.{ℕ}
 use native.Mathlib.Omega.{arith}
 use lib.ListN.{length}
 use Rattle.voxels.proofs.Loops.{next_fits}
-use Rattle.greedy.specs.Scans.{progress, row_along, slice_along, RowScan, row_tests}
-use Rattle.greedy.proofs.Scanning.{Scanning, scan_start, scan_room, scan_asks, scan_on, scan_done}
+use Rattle.greedy.specs.Scans.{slice_along, RowScan}
+use Rattle.greedy.proofs.Scanning.{scan_start, scan_room, scan_asks, scan_on, scan_done}
 use Rattle.greedy.proofs.scan_slice.Goals as goal
 
 pub loop-k-init : goal.loop-k-init

@@ -1,9 +1,6 @@
-use Prim.Native.Nat.{ℕ, ◌-◌}
-use native.Mathlib.Omega.{arith}
-use lib.ListN.{length}
-use Rattle.voxels.proofs.Loops.{next_fits}
-use Rattle.greedy.specs.Scans.{progress, row_along, slice_along, RowScan, row_tests}
-use Rattle.greedy.proofs.Scanning.{Scanning, scan_start, scan_room, scan_asks, scan_on, scan_done}
+use Prim.Native.Nat.{◌-◌}
+use Rattle.greedy.specs.Scans.{progress, row_along, row_tests}
+use Rattle.greedy.proofs.Scanning.{Scanning}
 use Rattle.greedy.proofs.scan_slice.Given as goal
 
 abbrev pub invariant-loop-k : goal.invariant-loop-k

@@ -1,10 +1,10 @@
 -- `scan_slices` meets its contract: what is scanned and what is left make all slices.
-use Prim.Native.Nat.{ℕ, ◌-◌}
+use Prim.Native.Nat.{ℕ}
 use native.Mathlib.Omega.{arith}
 use lib.ListN.{length}
 use Rattle.voxels.proofs.Loops.{next_fits}
-use Rattle.greedy.specs.Scans.{progress, slice_along, slices_along, SliceScan, slice_tests}
-use Rattle.greedy.proofs.Scanning.{Scanning, scan_start, scan_room, scan_asks, scan_on, scan_done}
+use Rattle.greedy.specs.Scans.{slices_along, SliceScan}
+use Rattle.greedy.proofs.Scanning.{scan_start, scan_room, scan_asks, scan_on, scan_done}
 use Rattle.greedy.proofs.scan_slices.Goals as goal
 
 pub loop-k-init : goal.loop-k-init

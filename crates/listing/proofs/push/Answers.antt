@@ -1,9 +1,8 @@
 -- `push` meets its contract: where there is room for the item its numbers are set one after another, and else nothing is written. The loop's invariant: the first k are set.
-use mathlib.Core.List.{List}
 use mathlib.Core.Path.{◌≡◌, refl, sym, ◌∙◌, ap}
-use Prim.Native.Nat.{ℕ, ◌+◌, ◌-◌, ◌*◌, ◌≤◌, ◌<◌}
+use Prim.Native.Nat.{◌+◌, ◌*◌, ◌≤◌, ◌<◌}
 use native.Mathlib.Omega.{arith}
-use lib.ListN.{length, take}
+use lib.ListN.{length}
 use lib.Seq.{take_all}
 use Rattle.listing.specs.Listing.{capacity}
 use Rattle.listing.specs.Pushed.{set_all}

@@ -1,10 +1,10 @@
 -- `kernel_strides` meets its contract: the strides so far are those of the faces so far.
 use mathlib.Core.Path.{◌≡◌, refl, ◌∙◌}
-use Prim.Native.Nat.{ℕ, ◌-◌, ◌≤◌, ◌<◌}
+use Prim.Native.Nat.{ℕ}
 use native.Mathlib.Omega.{arith}
-use lib.ListN.{length, get_or, length-set}
+use lib.ListN.{get_or, length-set}
 use Rattle.voxels.specs.declared.index.Stride.{Stride}
-use Rattle.simple.specs.Ready.{no_stride, offset_of}
+use Rattle.simple.specs.Ready.{no_stride}
 use Rattle.simple.specs.Kernel.{kernel_stride, no_face}
 use Rattle.simple.proofs.Sixes.{filled_next}
 use Rattle.simple.proofs.kernel_strides.Goals as goal

@@ -1,11 +1,8 @@
-use mathlib.Core.Path.{◌≡◌, refl, ◌∙◌}
+use mathlib.Core.Path.{◌≡◌}
 use Prim.Native.Nat.{ℕ, ◌-◌, ◌≤◌, ◌<◌}
-use native.Mathlib.Omega.{arith}
-use lib.ListN.{length, get_or, length-set}
-use Rattle.voxels.specs.declared.index.Stride.{Stride}
-use Rattle.simple.specs.Ready.{no_stride, offset_of}
+use lib.ListN.{length, get_or}
+use Rattle.simple.specs.Ready.{offset_of}
 use Rattle.simple.specs.Kernel.{kernel_stride, no_face}
-use Rattle.simple.proofs.Sixes.{filled_next}
 use Rattle.simple.proofs.kernel_strides.Given as goal
 
 abbrev pub invariant-loop-f : goal.invariant-loop-f

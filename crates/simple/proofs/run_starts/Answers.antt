@@ -1,9 +1,8 @@
 -- `run_starts` meets its contract: the cursors so far stand where the runs so far begin.
 use mathlib.Core.Path.{◌≡◌, refl, sym, ◌∙◌, ap}
-use Prim.Native.Nat.{ℕ, ◌-◌, ◌*◌, ◌≤◌, ◌<◌}
+use Prim.Native.Nat.{ℕ}
 use native.Mathlib.Omega.{arith}
-use lib.ListN.{length, get_or, length-set}
-use Rattle.simple.specs.Ready.{most_listed}
+use lib.ListN.{length-set}
 use Rattle.simple.specs.Kernel.{start_of}
 use Rattle.simple.proofs.Sixes.{filled_next, start_next}
 use Rattle.simple.proofs.run_starts.Goals as goal

@@ -1,10 +1,8 @@
-use mathlib.Core.Path.{◌≡◌, refl, sym, ◌∙◌, ap}
+use mathlib.Core.Path.{◌≡◌}
 use Prim.Native.Nat.{ℕ, ◌-◌, ◌*◌, ◌≤◌, ◌<◌}
-use native.Mathlib.Omega.{arith}
-use lib.ListN.{length, get_or, length-set}
+use lib.ListN.{length, get_or}
 use Rattle.simple.specs.Ready.{most_listed}
 use Rattle.simple.specs.Kernel.{start_of}
-use Rattle.simple.proofs.Sixes.{filled_next, start_next}
 use Rattle.simple.proofs.run_starts.Given as goal
 
 abbrev pub invariant-loop-f : goal.invariant-loop-f

@@ -1,15 +1,14 @@
 -- `find_quad` meets its contract: the first row, and the whole rows after it, make the rectangle.
 use Rattle.std.proofs.Common.{rules}
-use mathlib.Core.List.{List}
 use mathlib.Core.Path.{◌≡◌}
-use Prim.Native.Nat.{ℕ, ◌+◌, ◌-◌, ◌*◌, ◌≤◌, ◌<◌}
+use Prim.Native.Nat.{ℕ, ◌+◌, ◌-◌, ◌<◌}
 use native.Mathlib.Nat.{sub-zero}
 use native.Mathlib.Omega.{arith}
 use lib.ListN.{get_or}
 use Rattle.voxels.specs.Visible.{modulus}
 use Rattle.voxels.specs.Loop.{step_by}
-use Rattle.voxels.proofs.Loops.{Underway, underway_start, underway_on, next_fits}
-use Rattle.rules.specs.Merger.{Walked, walk, pick, walked_rows}
+use Rattle.voxels.proofs.Loops.{underway_start, underway_on, next_fits}
+use Rattle.rules.specs.Merger.{walk, pick, walked_rows}
 use Rattle.rules.proofs.Walks.{after_rows}
 use Rattle.greedy.specs.Walks.{row_at, quad_at}
 use Rattle.greedy.proofs.Walks.{first_row, first_voxel, first_step, next_row, rows_last, row_at_most, rows_on, rows_stop, rows_done, quad_from_lem}

@@ -1,16 +1,12 @@
 use mathlib.Core.List.{List}
 use mathlib.Core.Path.{◌≡◌}
-use Prim.Native.Nat.{ℕ, ◌+◌, ◌-◌, ◌*◌, ◌≤◌, ◌<◌}
-use native.Mathlib.Nat.{sub-zero}
-use native.Mathlib.Omega.{arith}
-use lib.ListN.{get_or}
+use Prim.Native.Nat.{ℕ, ◌+◌, ◌-◌, ◌*◌, ◌≤◌}
 use Rattle.voxels.specs.Visible.{modulus}
 use Rattle.voxels.specs.Loop.{step_by}
-use Rattle.voxels.proofs.Loops.{Underway, underway_start, underway_on, next_fits}
-use Rattle.rules.specs.Merger.{Walked, walk, pick, walked_rows}
+use Rattle.voxels.proofs.Loops.{Underway}
+use Rattle.rules.specs.Merger.{Walked, walked_rows}
 use Rattle.rules.proofs.Walks.{after_rows}
-use Rattle.greedy.specs.Walks.{row_at, quad_at}
-use Rattle.greedy.proofs.Walks.{first_row, first_voxel, first_step, next_row, rows_last, row_at_most, rows_on, rows_stop, rows_done, quad_from_lem}
+use Rattle.greedy.specs.Walks.{row_at}
 use Rattle.greedy.proofs.merge_strategy.find_quad.Given as goal
 
 -- The walk over the rows after the first, of its width.

@@ -1,16 +1,10 @@
-use borrow.Author.Tests.{not-true, not-false}
-use mathlib.Core.Bool.{Bool}
-use mathlib.Core.Path.{◌≡◌, ◌∙◌}
-use Prim.Native.Nat.{ℕ, ◌+◌, ◌-◌, ◌*◌, ◌≤◌}
-use native.Mathlib.Omega.{arith}
-use lib.ListN.{length}
+use mathlib.Core.Path.{◌≡◌}
+use Prim.Native.Nat.{◌-◌}
 use Rattle.voxels.specs.Loop.{step_by}
-use Rattle.voxels.specs.Entered.{most_voxels}
-use Rattle.voxels.proofs.Loops.{Underway, underway_start, underway_on, next_fits}
+use Rattle.voxels.proofs.Loops.{Underway}
 use Rattle.rules.specs.Merger.{walked}
 use Rattle.rules.proofs.Walks.{after}
-use Rattle.greedy.specs.Walks.{joins_at, Touches, row_at}
-use Rattle.greedy.proofs.Walks.{touches_at, walk_start, walk_on, walk_stops, walk_done, unneeded_not, joins_by}
+use Rattle.greedy.specs.Walks.{joins_at}
 use Rattle.greedy.proofs.merge_strategy.get_row_width.Given as goal
 
 abbrev pub invariant-loop-width : goal.invariant-loop-width

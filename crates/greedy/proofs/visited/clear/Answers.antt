@@ -1,11 +1,9 @@
 -- `clear` meets its contract: the first marks are 0, and the others are as they were.
 use Rattle.std.proofs.Common.{rules}
 use borrow.Author.Fill.{fill_more}
-use mathlib.Core.List.{◌++◌}
-use mathlib.Core.Path.{◌≡◌, refl}
-use Prim.Native.Nat.{◌-◌, ◌≤◌}
+use mathlib.Core.Path.{refl}
 use native.Mathlib.Omega.{arith}
-use lib.ListN.{length, length-set, drop, replicate}
+use lib.ListN.{length-set}
 use Rattle.greedy.proofs.Cleared.{cleared}
 use Rattle.greedy.proofs.visited.clear.Goals as goal
 

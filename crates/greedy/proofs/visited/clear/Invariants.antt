@@ -1,10 +1,7 @@
-use borrow.Author.Fill.{fill_more}
 use mathlib.Core.List.{◌++◌}
-use mathlib.Core.Path.{◌≡◌, refl}
+use mathlib.Core.Path.{◌≡◌}
 use Prim.Native.Nat.{◌-◌, ◌≤◌}
-use native.Mathlib.Omega.{arith}
-use lib.ListN.{length, length-set, drop, replicate}
-use Rattle.greedy.proofs.Cleared.{cleared}
+use lib.ListN.{length, drop, replicate}
 use Rattle.greedy.proofs.visited.clear.Given as goal
 
 abbrev pub invariant-loop-i : goal.invariant-loop-i

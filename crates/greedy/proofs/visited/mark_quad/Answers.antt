@@ -1,10 +1,7 @@
 -- `mark_quad` meets its contract: what is marked and what is left make the whole rectangle.
-use mathlib.Core.Path.{◌≡◌, refl, ◌∙◌}
-use Prim.Native.Nat.{◌+◌, ◌-◌}
+use mathlib.Core.Path.{refl, ◌∙◌}
 use native.Mathlib.Omega.{arith}
-use lib.ListN.{length}
-use Rattle.voxels.specs.Loop.{steps}
-use Rattle.voxels.proofs.Loops.{Underway, underway_start, underway_on, next_fits, steps_start, steps_on, steps_done}
+use Rattle.voxels.proofs.Loops.{underway_start, underway_on, next_fits, steps_start, steps_on, steps_done}
 use Rattle.greedy.specs.Marks.{mark_row_at, mark_quad_at}
 use Rattle.greedy.proofs.visited.mark_quad.Goals as goal
 

@@ -1,11 +1,9 @@
 -- `mark_row` meets its contract: what is marked and what is left make the whole row.
-use mathlib.Core.Path.{◌≡◌, refl}
-use Prim.Native.Nat.{◌+◌, ◌-◌}
+use mathlib.Core.Path.{refl}
 use native.Mathlib.Omega.{arith}
-use lib.ListN.{length, length-set}
-use Rattle.voxels.specs.Loop.{steps}
-use Rattle.voxels.proofs.Loops.{Underway, underway_start, underway_on, next_fits, steps_start, steps_on, steps_done}
-use Rattle.greedy.specs.Marks.{mark_at, mark_row_at}
+use lib.ListN.{length-set}
+use Rattle.voxels.proofs.Loops.{underway_start, underway_on, next_fits, steps_start, steps_on, steps_done}
+use Rattle.greedy.specs.Marks.{mark_row_at}
 use Rattle.greedy.proofs.visited.mark_row.Goals as goal
 
 pub loop-k-init : goal.loop-k-init

@@ -1,10 +1,9 @@
-use mathlib.Core.Path.{◌≡◌, refl}
+use mathlib.Core.Path.{◌≡◌}
 use Prim.Native.Nat.{◌+◌, ◌-◌}
-use native.Mathlib.Omega.{arith}
-use lib.ListN.{length, length-set}
+use lib.ListN.{length}
 use Rattle.voxels.specs.Loop.{steps}
-use Rattle.voxels.proofs.Loops.{Underway, underway_start, underway_on, next_fits, steps_start, steps_on, steps_done}
-use Rattle.greedy.specs.Marks.{mark_at, mark_row_at}
+use Rattle.voxels.proofs.Loops.{Underway}
+use Rattle.greedy.specs.Marks.{mark_at}
 use Rattle.greedy.proofs.visited.mark_row.Given as goal
 
 abbrev pub invariant-loop-k : goal.invariant-loop-k

@@ -1,12 +1,11 @@
 -- `count_row` meets its contract: what the voxels so far show is counted.
 use mathlib.Core.Path.{sym, ◌∙◌}
-use Prim.Native.Nat.{ℕ, ◌-◌}
 use native.Mathlib.Omega.{arith}
 use Rattle.voxels.proofs.Loops.{next_fits}
 use Rattle.simple.specs.Ready.{offset_of, VoxelReady}
-use Rattle.simple.specs.Count.{shown_at, row_shown}
+use Rattle.simple.specs.Count.{row_shown}
 use Rattle.simple.proofs.Totals.{voxel_at_most}
-use Rattle.simple.proofs.Counting.{row_can, Counting, counting_start, counting_can, counting_on, counting_done}
+use Rattle.simple.proofs.Counting.{row_can, counting_start, counting_can, counting_on, counting_done}
 use Rattle.simple.proofs.count.count_row.Goals as goal
 
 pub loop-k-init : goal.loop-k-init

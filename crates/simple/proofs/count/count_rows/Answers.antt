@@ -1,12 +1,12 @@
 -- `count_rows` meets its contract: what the rows so far show is counted.
 use mathlib.Core.Path.{sym, ◌∙◌}
-use Prim.Native.Nat.{ℕ, ◌-◌}
+use Prim.Native.Nat.{ℕ}
 use native.Mathlib.Omega.{arith}
 use Rattle.voxels.proofs.Loops.{next_fits}
 use Rattle.simple.specs.Ready.{offset_of, RowReady}
-use Rattle.simple.specs.Count.{row_shown, rows_shown}
+use Rattle.simple.specs.Count.{rows_shown}
 use Rattle.simple.proofs.Totals.{row_at_most}
-use Rattle.simple.proofs.Counting.{rows_can, Counting, counting_start, counting_can, counting_on, counting_done}
+use Rattle.simple.proofs.Counting.{rows_can, counting_start, counting_can, counting_on, counting_done}
 use Rattle.simple.proofs.count.count_rows.Goals as goal
 
 pub loop-k-init : goal.loop-k-init

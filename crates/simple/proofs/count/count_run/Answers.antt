@@ -1,11 +1,9 @@
 -- `count_run` meets its contract: what the voxels so far show is counted.
 use Rattle.std.proofs.Common.{rules}
 use mathlib.Core.Path.{◌≡◌, refl, ◌∙◌, ap}
-use Prim.Native.Nat.{ℕ, ◌+◌, ◌-◌, ◌≤◌}
+use Prim.Native.Nat.{ℕ, ◌+◌}
 use native.Mathlib.Omega.{arith}
-use Rattle.voxels.specs.Visible.{offset_index}
 use Rattle.voxels.specs.Loop.{looped}
-use Rattle.simple.specs.Ready.{RowReady}
 use Rattle.simple.specs.Count.{row_shown}
 use Rattle.simple.proofs.Neighbours.{voxel_ready, beyond_at}
 use Rattle.simple.proofs.Totals.{row_at_most, row_next}

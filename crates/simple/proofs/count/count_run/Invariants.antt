@@ -1,12 +1,8 @@
-use mathlib.Core.Path.{◌≡◌, refl, ◌∙◌, ap}
-use Prim.Native.Nat.{ℕ, ◌+◌, ◌-◌, ◌≤◌}
-use native.Mathlib.Omega.{arith}
+use mathlib.Core.Path.{◌≡◌}
+use Prim.Native.Nat.{ℕ, ◌-◌, ◌≤◌}
 use Rattle.voxels.specs.Visible.{offset_index}
-use Rattle.voxels.specs.Loop.{looped}
 use Rattle.simple.specs.Ready.{RowReady}
 use Rattle.simple.specs.Count.{row_shown}
-use Rattle.simple.proofs.Neighbours.{voxel_ready, beyond_at}
-use Rattle.simple.proofs.Totals.{row_at_most, row_next}
 use Rattle.simple.proofs.count.count_run.Given as goal
 
 abbrev pub invariant-loop-k : goal.invariant-loop-k

@@ -4,9 +4,8 @@ use Prim.Native.Nat.{ℕ, ◌+◌, ◌-◌}
 use native.Mathlib.Omega.{arith}
 use lib.ListN.{get_or}
 use Rattle.simple.specs.Ready.{offset_of}
-use Rattle.simple.specs.Count.{row_shown}
 use Rattle.simple.proofs.Totals.{row_at_most}
-use Rattle.simple.proofs.Sixes.{Growing, growing_start, growing_room, growing_on, growing_done}
+use Rattle.simple.proofs.Sixes.{growing_start, growing_room, growing_on, growing_done}
 use Rattle.simple.proofs.count.count_runs.Goals as goal
 
 pub loop-f-init : goal.loop-f-init

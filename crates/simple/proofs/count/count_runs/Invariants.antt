@@ -1,11 +1,8 @@
-use mathlib.Core.Path.{sym, ◌∙◌, ap}
-use Prim.Native.Nat.{ℕ, ◌+◌, ◌-◌}
-use native.Mathlib.Omega.{arith}
+use Prim.Native.Nat.{ℕ, ◌-◌}
 use lib.ListN.{get_or}
 use Rattle.simple.specs.Ready.{offset_of}
 use Rattle.simple.specs.Count.{row_shown}
-use Rattle.simple.proofs.Totals.{row_at_most}
-use Rattle.simple.proofs.Sixes.{Growing, growing_start, growing_room, growing_on, growing_done}
+use Rattle.simple.proofs.Sixes.{Growing}
 use Rattle.simple.proofs.count.count_runs.Given as goal
 
 abbrev pub invariant-loop-f : goal.invariant-loop-f

@@ -1,12 +1,12 @@
 -- `count_slices` meets its contract: what the slices so far show is counted.
 use mathlib.Core.Path.{sym, ◌∙◌}
-use Prim.Native.Nat.{ℕ, ◌-◌}
+use Prim.Native.Nat.{ℕ}
 use native.Mathlib.Omega.{arith}
 use Rattle.voxels.proofs.Loops.{next_fits}
 use Rattle.simple.specs.Ready.{offset_of, RowsReady}
-use Rattle.simple.specs.Count.{rows_shown, slices_shown}
+use Rattle.simple.specs.Count.{slices_shown}
 use Rattle.simple.proofs.Totals.{rows_reach}
-use Rattle.simple.proofs.Counting.{Counting, counting_start, counting_can, counting_on, counting_done}
+use Rattle.simple.proofs.Counting.{counting_start, counting_can, counting_on, counting_done}
 use Rattle.simple.proofs.count.count_slices.Goals as goal
 
 pub loop-k-init : goal.loop-k-init

@@ -1,11 +1,7 @@
-use mathlib.Core.Path.{sym, ◌∙◌}
 use Prim.Native.Nat.{ℕ, ◌-◌}
-use native.Mathlib.Omega.{arith}
-use Rattle.voxels.proofs.Loops.{next_fits}
-use Rattle.simple.specs.Ready.{offset_of, RowsReady}
-use Rattle.simple.specs.Count.{rows_shown, slices_shown}
-use Rattle.simple.proofs.Totals.{rows_reach}
-use Rattle.simple.proofs.Counting.{Counting, counting_start, counting_can, counting_on, counting_done}
+use Rattle.simple.specs.Ready.{offset_of}
+use Rattle.simple.specs.Count.{rows_shown}
+use Rattle.simple.proofs.Counting.{Counting}
 use Rattle.simple.proofs.count.count_slices.Given as goal
 
 abbrev pub invariant-loop-k : goal.invariant-loop-k

@@ -1,14 +1,14 @@
 -- `count_voxel` meets its contract: the faces so far are counted, and the others are as they were.
 use mathlib.Core.Bool.{Bool}
 use mathlib.Core.Path.{refl, sym, ◌∙◌, ap}
-use Prim.Native.Nat.{ℕ, ◌+◌, ◌-◌}
+use Prim.Native.Nat.{◌+◌}
 use native.Mathlib.Omega.{arith}
 use lib.ListN.{get_or}
 use Rattle.geometry.specs.Axes.{bit}
 use Rattle.simple.specs.Ready.{offset_of}
 use Rattle.simple.specs.Count.{shown_at}
 use Rattle.simple.proofs.Neighbours.{seen, unseen}
-use Rattle.simple.proofs.Sixes.{counted_none, Growing, growing_start, growing_room, growing_on, growing_still, growing_done}
+use Rattle.simple.proofs.Sixes.{counted_none, growing_start, growing_room, growing_on, growing_still, growing_done}
 use Rattle.simple.proofs.count.count_voxel.Goals as goal
 use Rattle.simple.proofs.count.count_voxel.Goals.{then-voxels-j, else-voxels-j}
 

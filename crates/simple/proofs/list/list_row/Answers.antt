@@ -1,15 +1,13 @@
 -- `list_row` meets its contract: what is listed and what is left make the whole row.
 use mathlib.Core.Path.{sym, ◌∙◌}
-use Prim.Native.Nat.{ℕ, ◌-◌}
 use native.Mathlib.Omega.{arith}
 use Rattle.geometry.specs.Point.{at}
 use Rattle.voxels.proofs.Loops.{next_fits}
 use Rattle.simple.specs.Ready.{offset_of, VoxelReady}
-use Rattle.simple.specs.Count.{shown_at}
-use Rattle.simple.specs.List.{voxel_quad, row_quads}
+use Rattle.simple.specs.List.{row_quads}
 use Rattle.simple.proofs.Totals.{voxel_at_most, voxel_length}
 use Rattle.simple.proofs.Counting.{row_can, counting_can}
-use Rattle.simple.proofs.Cursors.{Listing, runs_start, runs_on, runs_done}
+use Rattle.simple.proofs.Cursors.{runs_start, runs_on, runs_done}
 use Rattle.simple.proofs.list.list_row.Goals as goal
 
 pub loop-k-init : goal.loop-k-init

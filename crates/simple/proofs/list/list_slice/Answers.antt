@@ -1,15 +1,14 @@
 -- `list_slice` meets its contract: what is listed and what is left make the whole slice.
 use mathlib.Core.Path.{sym, ◌∙◌}
-use Prim.Native.Nat.{ℕ, ◌-◌}
+use Prim.Native.Nat.{ℕ}
 use native.Mathlib.Omega.{arith}
 use Rattle.geometry.specs.Point.{at}
 use Rattle.voxels.proofs.Loops.{next_fits}
 use Rattle.simple.specs.Ready.{offset_of, RowReady}
-use Rattle.simple.specs.Count.{row_shown}
-use Rattle.simple.specs.List.{row_quads, rows_quads}
+use Rattle.simple.specs.List.{rows_quads}
 use Rattle.simple.proofs.Totals.{row_at_most, row_length}
 use Rattle.simple.proofs.Counting.{rows_can, counting_can}
-use Rattle.simple.proofs.Cursors.{Listing, runs_start, runs_apart, runs_on, runs_done}
+use Rattle.simple.proofs.Cursors.{runs_start, runs_apart, runs_on, runs_done}
 use Rattle.simple.proofs.list.list_slice.Goals as goal
 
 pub loop-k-init : goal.loop-k-init

@@ -1,14 +1,9 @@
-use mathlib.Core.Path.{sym, ◌∙◌}
 use Prim.Native.Nat.{ℕ, ◌-◌}
-use native.Mathlib.Omega.{arith}
 use Rattle.geometry.specs.Point.{at}
-use Rattle.voxels.proofs.Loops.{next_fits}
-use Rattle.simple.specs.Ready.{offset_of, RowsReady}
+use Rattle.simple.specs.Ready.{offset_of}
 use Rattle.simple.specs.Count.{rows_shown}
-use Rattle.simple.specs.List.{rows_quads, slices_quads}
-use Rattle.simple.proofs.Totals.{rows_reach, rows_length}
-use Rattle.simple.proofs.Counting.{counting_can}
-use Rattle.simple.proofs.Cursors.{Listing, runs_start, runs_apart, runs_on, runs_done}
+use Rattle.simple.specs.List.{rows_quads}
+use Rattle.simple.proofs.Cursors.{Listing}
 use Rattle.simple.proofs.list.list_slices.Given as goal
 
 abbrev pub invariant-loop-slice : goal.invariant-loop-slice

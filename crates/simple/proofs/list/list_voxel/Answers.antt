@@ -2,7 +2,6 @@
 use mathlib.Core.Bool.{Bool}
 use mathlib.Core.List.{List}
 use mathlib.Core.Path.{refl, sym, ◌∙◌, ap}
-use Prim.Native.Nat.{ℕ, ◌-◌}
 use native.Mathlib.Omega.{arith}
 use Rattle.geometry.specs.Point.{Point}
 use Rattle.voxels.specs.Rows.{kept_if}
@@ -10,7 +9,7 @@ use Rattle.simple.specs.Ready.{offset_of}
 use Rattle.simple.specs.List.{voxel_quad}
 use Rattle.simple.proofs.Neighbours.{seen, unseen}
 use Rattle.simple.proofs.Sixes.{growing_room}
-use Rattle.simple.proofs.Cursors.{Faced, faces_start, faces_hidden, faces_shown, faces_done, faces_none}
+use Rattle.simple.proofs.Cursors.{faces_start, faces_hidden, faces_shown, faces_done, faces_none}
 use Rattle.simple.proofs.list.list_voxel.Goals as goal
 use Rattle.simple.proofs.list.list_voxel.Goals.{then-voxels-j, else-voxels-j}
 

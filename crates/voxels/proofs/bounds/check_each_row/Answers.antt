@@ -1,11 +1,9 @@
 -- `check_each_row` meets its contract: the rows that are left decide as all do.
-use Rattle.std.proofs.Common.{◌≡◌, ◌-◌, sym, ap, ◌∙◌, arith}
-use Rattle.geometry.specs.Refusal.{checked}
+use Rattle.std.proofs.Common.{sym, ap, ◌∙◌, arith}
 use Rattle.geometry.specs.Answers.{check_meaning}
-use Rattle.voxels.specs.Loop.{every}
 use Rattle.voxels.specs.Rows.{bad_at, row, rows}
 use Rattle.voxels.proofs.Asked.{ask_start, ask_on, ask_stops, ask_done}
-use Rattle.voxels.proofs.Loops.{Underway, underway_start, underway_on, next_fits}
+use Rattle.voxels.proofs.Loops.{underway_start, underway_on, next_fits}
 use Rattle.voxels.proofs.bounds.check_each_row.Goals as goal
 
 pub loop-k-init : goal.loop-k-init

@@ -1,10 +1,8 @@
-use Rattle.std.proofs.Common.{◌≡◌, ◌-◌, sym, ap, ◌∙◌, arith}
+use Rattle.std.proofs.Common.{◌≡◌, ◌-◌}
 use Rattle.geometry.specs.Refusal.{checked}
-use Rattle.geometry.specs.Answers.{check_meaning}
 use Rattle.voxels.specs.Loop.{every}
 use Rattle.voxels.specs.Rows.{bad_at, row, rows}
-use Rattle.voxels.proofs.Asked.{ask_start, ask_on, ask_stops, ask_done}
-use Rattle.voxels.proofs.Loops.{Underway, underway_start, underway_on, next_fits}
+use Rattle.voxels.proofs.Loops.{Underway}
 use Rattle.voxels.proofs.bounds.check_each_row.Given as goal
 
 abbrev pub invariant-loop-k : goal.invariant-loop-k

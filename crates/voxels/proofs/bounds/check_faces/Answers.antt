@@ -1,9 +1,7 @@
 -- `check_faces` meets its contract: the faces that are left decide as all do.
 use Rattle.std.proofs.Common.{rules}
-use Rattle.std.proofs.Common.{◌≡◌, ◌-◌, ◌≤◌, length, drop, sym, refl, ap, ◌∙◌, arith}
+use Rattle.std.proofs.Common.{sym, refl, ap, ◌∙◌, arith}
 use Rattle.geometry.specs.Answers.{check_meaning}
-use Rattle.geometry.specs.Refusal.{checked}
-use Rattle.voxels.specs.Checks.{bad_faces_from, bad_faces}
 use Rattle.voxels.proofs.Asked.{face_on, face_stops, face_done}
 use Rattle.voxels.proofs.bounds.check_faces.Goals as goal
 

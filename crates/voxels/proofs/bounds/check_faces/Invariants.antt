@@ -1,8 +1,6 @@
-use Rattle.std.proofs.Common.{◌≡◌, ◌-◌, ◌≤◌, length, drop, sym, refl, ap, ◌∙◌, arith}
-use Rattle.geometry.specs.Answers.{check_meaning}
+use Rattle.std.proofs.Common.{◌≡◌, ◌-◌, ◌≤◌, length, drop}
 use Rattle.geometry.specs.Refusal.{checked}
 use Rattle.voxels.specs.Checks.{bad_faces_from, bad_faces}
-use Rattle.voxels.proofs.Asked.{face_on, face_stops, face_done}
 use Rattle.voxels.proofs.bounds.check_faces.Given as goal
 
 abbrev pub invariant-loop-k : goal.invariant-loop-k

@@ -1,11 +1,9 @@
 -- `check_slices` meets its contract: the slices that are left decide as all do.
-use Rattle.std.proofs.Common.{◌≡◌, ◌-◌, sym, ap, ◌∙◌, arith}
-use Rattle.geometry.specs.Refusal.{checked}
+use Rattle.std.proofs.Common.{sym, ap, ◌∙◌, arith}
 use Rattle.geometry.specs.Answers.{check_meaning}
-use Rattle.voxels.specs.Loop.{every}
 use Rattle.voxels.specs.Rows.{bad_at, rows, slices}
 use Rattle.voxels.proofs.Asked.{ask_start, ask_on, ask_stops, ask_done}
-use Rattle.voxels.proofs.Loops.{Underway, underway_start, underway_on, next_fits}
+use Rattle.voxels.proofs.Loops.{underway_start, underway_on, next_fits}
 use Rattle.voxels.proofs.bounds.check_slices.Goals as goal
 
 pub loop-k-init : goal.loop-k-init

@@ -1,8 +1,6 @@
 -- `first_bad` meets its contract: the voxels that are left decide as the whole row does.
-use Rattle.std.proofs.Common.{◌≡◌, ◌-◌, ◌≤◌, arith}
+use Rattle.std.proofs.Common.{◌-◌, arith}
 use native.Mathlib.Nat.{add-sub_cancel_left}
-use Rattle.geometry.specs.Refusal.{checked}
-use Rattle.voxels.specs.Loop.{every}
 use Rattle.voxels.specs.Rows.{bad_at, row}
 use Rattle.voxels.proofs.Asked.{ask_on, ask_stops, ask_done, good_here, bad_here}
 use Rattle.voxels.proofs.bounds.first_bad.Goals as goal

@@ -1,9 +1,7 @@
-use Rattle.std.proofs.Common.{◌≡◌, ◌-◌, ◌≤◌, arith}
-use native.Mathlib.Nat.{add-sub_cancel_left}
+use Rattle.std.proofs.Common.{◌≡◌, ◌-◌, ◌≤◌}
 use Rattle.geometry.specs.Refusal.{checked}
 use Rattle.voxels.specs.Loop.{every}
 use Rattle.voxels.specs.Rows.{bad_at, row}
-use Rattle.voxels.proofs.Asked.{ask_on, ask_stops, ask_done, good_here, bad_here}
 use Rattle.voxels.proofs.bounds.first_bad.Given as goal
 
 abbrev pub invariant-loop-i : goal.invariant-loop-i

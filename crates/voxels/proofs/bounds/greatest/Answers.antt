@@ -1,6 +1,5 @@
 -- `greatest` meets its contract: no voxel looked at is greater than the greatest so far.
-use Rattle.std.proofs.Common.{◌-◌, ◌≤◌, arith}
-use Rattle.voxels.specs.Rows.{AtMost}
+use Rattle.std.proofs.Common.{arith}
 use Rattle.voxels.proofs.Rows.{most_on}
 use Rattle.voxels.proofs.bounds.greatest.Goals as goal
 

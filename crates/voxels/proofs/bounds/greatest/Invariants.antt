@@ -1,6 +1,5 @@
-use Rattle.std.proofs.Common.{◌-◌, ◌≤◌, arith}
+use Rattle.std.proofs.Common.{◌-◌, ◌≤◌}
 use Rattle.voxels.specs.Rows.{AtMost}
-use Rattle.voxels.proofs.Rows.{most_on}
 use Rattle.voxels.proofs.bounds.greatest.Given as goal
 
 abbrev pub invariant-loop-k : goal.invariant-loop-k

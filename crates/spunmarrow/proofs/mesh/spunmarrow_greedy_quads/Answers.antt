@@ -1,0 +1,13 @@
+-- `spunmarrow_greedy_quads` meets its contract: the check of the faces decides, or greedy meshing.
+use mathlib.Core.Path.{ap}
+use Rattle.geometry.specs.Answers.{check_meaning}
+use Rattle.spunmarrow.proofs.Left.{greedy_refused, greedy_made}
+use Rattle.spunmarrow.proofs.mesh.spunmarrow_greedy_quads.Goals as goal
+
+pub returns-in-Refused : goal.returns-in-Refused
+returns-in-Refused c = greedy_refused _ _ _ _ _ _ _ c.check_faces.ensures (ap check_meaning c.in-Refused.is) c.refuse.ensures
+
+pub returns-in-Passed : goal.returns-in-Passed
+returns-in-Passed c =
+    greedy_made _ _ _ _ _ _ _ c.check_faces.ensures (ap check_meaning c.in-Passed.is)
+    c.point.ensures c.point-in-Passed.ensures c.point-in-Passed-2.ensures c.faces.ensures c.greedy_quads-meshed.ensures c.write.ensures
