@@ -1,5 +1,5 @@
 -- `lines` is safe, and ends: the loop counts the lines, which are no more than the bytes.
-use Rattle.std.proofs.Common.{◌-◌, ◌≤◌, length, arith}
+use Rattle.std.proofs.Common.{◌-◌, ◌≤◌, length}
 use Rattle.replay.proofs.lines.Given as goal
 
 abbrev pub invariant-loop-k : goal.invariant-loop-k

@@ -1,5 +1,5 @@
 -- `mesh::answer` is safe, and ends: the loop counts the six.
-use Rattle.std.proofs.Common.{◌-◌, ◌≤◌, arith}
+use Rattle.std.proofs.Common.{◌-◌, ◌≤◌}
 use Rattle.examples.proofs.mesh.answer.Given as goal
 
 abbrev pub invariant-loop-k : goal.invariant-loop-k

@@ -1,5 +1,5 @@
 -- `mesh::cleared` is safe, and ends: the loop counts the bytes.
-use Rattle.std.proofs.Common.{◌-◌, length, arith}
+use Rattle.std.proofs.Common.{◌-◌, length}
 use Rattle.examples.proofs.mesh.cleared.Given as goal
 
 abbrev pub invariant-loop-k : goal.invariant-loop-k

@@ -1,5 +1,5 @@
 -- `mesh::fill` is safe, and ends: the loop counts the voxels, which stay as many.
-use Rattle.std.proofs.Common.{◌≡◌, ◌-◌, length, arith}
+use Rattle.std.proofs.Common.{◌≡◌, ◌-◌, length}
 use Rattle.examples.proofs.mesh.fill.Given as goal
 
 abbrev pub invariant-loop-k : goal.invariant-loop-k

@@ -1,5 +1,5 @@
 -- `mesh::output` is safe, and ends: the loop counts the numbers.
-use Rattle.std.proofs.Common.{◌-◌, ◌≤◌, length, arith}
+use Rattle.std.proofs.Common.{◌-◌, ◌≤◌, length}
 use Rattle.examples.proofs.mesh.output.Given as goal
 
 abbrev pub invariant-loop-k : goal.invariant-loop-k

@@ -1,5 +1,5 @@
 -- `mesh::six_faces` is safe, and ends: the loop counts the six.
-use Rattle.std.proofs.Common.{◌-◌, ◌≤◌, arith}
+use Rattle.std.proofs.Common.{◌-◌, ◌≤◌}
 use Rattle.examples.proofs.mesh.six_faces.Given as goal
 
 abbrev pub invariant-loop-k : goal.invariant-loop-k

@@ -1,5 +1,5 @@
 -- `text::digits` is safe, and ends: the loop counts the bytes.
-use Rattle.std.proofs.Common.{◌-◌, length, arith}
+use Rattle.std.proofs.Common.{◌-◌, length}
 use Rattle.examples.proofs.text.digits.Given as goal
 
 abbrev pub invariant-loop-i : goal.invariant-loop-i

@@ -1,5 +1,5 @@
 -- `block::decode` is safe, and ends: the loop counts voxels.
-use Rattle.std.proofs.Common.{◌≡◌, ◌-◌, length, refl, ◌∙◌, arith}
+use Rattle.std.proofs.Common.{◌≡◌, ◌-◌, length}
 use Rattle.mesh.proofs.block.decode.Given as goal
 
 abbrev pub invariant-loop-i : goal.invariant-loop-i

@@ -1,5 +1,5 @@
 -- `block::read_full` ends, since each turn leaves less to fill.
-use Rattle.std.proofs.Common.{◌≡◌, ◌-◌, ◌≤◌, ◌<◌, ◌^◌, ◌×◌, length}
+use Rattle.std.proofs.Common.{◌≡◌, ◌-◌, ◌≤◌, ◌<◌, ◌^◌, length}
 use Rattle.mesh.proofs.block.read_full.Given as goal
 
 abbrev pub invariant-loop-done : goal.invariant-loop-done

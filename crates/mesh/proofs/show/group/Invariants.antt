@@ -1,5 +1,5 @@
 -- `show::group` is safe, and ends: the loop counts the quads.
-use Rattle.std.proofs.Common.{◌-◌, ◌≤◌, arith}
+use Rattle.std.proofs.Common.{◌-◌, ◌≤◌}
 use Rattle.mesh.proofs.show.group.Given as goal
 
 abbrev pub invariant-loop-k : goal.invariant-loop-k

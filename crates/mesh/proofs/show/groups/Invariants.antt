@@ -1,5 +1,5 @@
 -- `show::groups` is safe, and ends: the loop counts six groups.
-use Rattle.std.proofs.Common.{◌-◌, ◌≤◌, arith}
+use Rattle.std.proofs.Common.{◌-◌, ◌≤◌}
 use Rattle.mesh.proofs.show.groups.Given as goal
 
 abbrev pub invariant-loop-k : goal.invariant-loop-k

@@ -1,5 +1,5 @@
 -- `show::put_all` is safe, and ends: the loop counts the bytes.
-use Rattle.std.proofs.Common.{◌-◌, ◌≤◌, length, arith}
+use Rattle.std.proofs.Common.{◌-◌, ◌≤◌, length}
 use Rattle.mesh.proofs.show.put_all.Given as goal
 
 abbrev pub invariant-loop-i : goal.invariant-loop-i

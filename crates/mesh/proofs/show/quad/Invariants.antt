@@ -1,5 +1,5 @@
 -- `show::quad` is safe, and ends: the loop counts the numbers of a quad.
-use Rattle.std.proofs.Common.{◌-◌, ◌≤◌, arith}
+use Rattle.std.proofs.Common.{◌-◌, ◌≤◌}
 use Rattle.mesh.proofs.show.quad.Given as goal
 
 abbrev pub invariant-loop-k : goal.invariant-loop-k

@@ -1,5 +1,5 @@
 -- `words::number` is safe, and ends: the loop counts the bytes.
-use Rattle.std.proofs.Common.{◌-◌, ◌≤◌, length, arith}
+use Rattle.std.proofs.Common.{◌-◌, ◌≤◌, length}
 use Rattle.mesh.proofs.words.number.Given as goal
 
 abbrev pub invariant-loop-i : goal.invariant-loop-i

@@ -1,5 +1,5 @@
 -- `mesh::compare_answer` is safe, and ends: the loop counts the nine numbers.
-use Rattle.std.proofs.Common.{◌-◌, ◌≤◌, arith}
+use Rattle.std.proofs.Common.{◌-◌, ◌≤◌}
 use Rattle.replay.proofs.mesh.compare_answer.Given as goal
 
 abbrev pub invariant-loop-k : goal.invariant-loop-k

@@ -1,5 +1,5 @@
 -- `mesh::compare_visited` is safe, and ends: the loop counts the bytes.
-use Rattle.std.proofs.Common.{◌-◌, ◌≤◌, length, arith}
+use Rattle.std.proofs.Common.{◌-◌, ◌≤◌, length}
 use Rattle.replay.proofs.mesh.compare_visited.Given as goal
 
 abbrev pub invariant-loop-i : goal.invariant-loop-i

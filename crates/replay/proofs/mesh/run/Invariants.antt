@@ -1,5 +1,5 @@
 -- `mesh::run` is safe, and ends: the loop counts the voxels of the run.
-use Rattle.std.proofs.Common.{◌≡◌, ◌-◌, length, arith}
+use Rattle.std.proofs.Common.{◌≡◌, ◌-◌, length}
 use Rattle.replay.proofs.mesh.run.Given as goal
 
 abbrev pub invariant-loop-k : goal.invariant-loop-k

@@ -1,5 +1,5 @@
 -- `mesh::runs` is safe, and ends: the loop counts the runs.
-use Rattle.std.proofs.Common.{◌≡◌, ◌-◌, length, arith}
+use Rattle.std.proofs.Common.{◌≡◌, ◌-◌, length}
 use Rattle.replay.proofs.mesh.runs.Given as goal
 
 abbrev pub invariant-loop-k : goal.invariant-loop-k

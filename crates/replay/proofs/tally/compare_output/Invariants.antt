@@ -1,5 +1,5 @@
 -- `tally::compare_output` is safe, and ends: the loop counts the numbers.
-use Rattle.std.proofs.Common.{◌-◌, ◌≤◌, length, arith}
+use Rattle.std.proofs.Common.{◌-◌, ◌≤◌, length}
 use Rattle.replay.proofs.tally.compare_output.Given as goal
 
 abbrev pub invariant-loop-i : goal.invariant-loop-i

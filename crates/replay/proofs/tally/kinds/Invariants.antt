@@ -1,5 +1,5 @@
 -- `tally::kinds` is safe, and ends: the loop counts the kinds.
-use Rattle.std.proofs.Common.{◌-◌, ◌≤◌, arith}
+use Rattle.std.proofs.Common.{◌-◌, ◌≤◌}
 use Rattle.replay.proofs.tally.kinds.Given as goal
 
 abbrev pub invariant-loop-kind : goal.invariant-loop-kind

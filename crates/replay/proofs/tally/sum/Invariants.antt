@@ -1,5 +1,5 @@
 -- `tally::sum` is safe, and ends: the loop counts the kinds.
-use Rattle.std.proofs.Common.{◌-◌, arith}
+use Rattle.std.proofs.Common.{◌-◌}
 use Rattle.replay.proofs.tally.sum.Given as goal
 
 abbrev pub invariant-loop-kind : goal.invariant-loop-kind

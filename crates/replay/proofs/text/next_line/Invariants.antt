@@ -1,5 +1,5 @@
 -- `text::next_line` is safe, and ends: the loop counts the bytes.
-use Rattle.std.proofs.Common.{◌-◌, length, arith}
+use Rattle.std.proofs.Common.{◌-◌, length}
 use Rattle.replay.proofs.text.next_line.Given as goal
 
 abbrev pub invariant-loop-i : goal.invariant-loop-i

@@ -1,5 +1,5 @@
 -- `text::read_number` is safe, and ends: the loop counts the digits.
-use Rattle.std.proofs.Common.{◌-◌, ◌≤◌, arith}
+use Rattle.std.proofs.Common.{◌-◌, ◌≤◌}
 use Rattle.replay.proofs.text.read_number.Given as goal
 
 abbrev pub invariant-loop-k : goal.invariant-loop-k
