@@ -1,6 +1,6 @@
 /* Spunmarrow: quads from blocks of voxels. The C interface.
  *
- * Link with libspunmarrow.a, which `rt staticlib spunmarrow` writes to target/staticlib/, on x86-64 Linux:
+ * Link with libspunmarrow.a, which host/archive writes to target/staticlib/, on x86-64 Linux:
  *     cc -Iinclude FILE.c target/staticlib/libspunmarrow.a
  * Plain C99; C++17 takes it as well. host/mesh_file.c, with host/block.c, is a program to copy. The archive needs
  * memset of the C library and nothing else, and any x86-64 processor will do: it has no instruction past SSE2.
