@@ -42,7 +42,8 @@ tools_x86_64() {
     [ -z "$missing" ] || install_packages $missing
     rustc=/usr/bin/rustc cc=x86_64-linux-gnu-gcc ar=x86_64-linux-gnu-ar
     rust_target="--target x86_64-unknown-linux-gnu -C linker=x86_64-linux-gnu-gcc"
-    runner='qemu-x86_64 -L /usr/x86_64-linux-gnu'
+    libraries=/usr/x86_64-linux-gnu/lib
+    runner="qemu-x86_64 $libraries/ld-linux-x86-64.so.2 --library-path $libraries"
 }
 
 # compile_crate NAME FILE [WORDS..]: one library of Rust, with those built before at hand.
