@@ -8,13 +8,11 @@ mod axes;
 mod call;
 mod draw;
 mod given;
+mod input;
 mod show;
 mod text;
 
-use std::io::{self, Read};
-
-// The most bytes of a list.
-const MOST_BYTES: u64 = 65536;
+use std::io;
 
 // Prints the line that starts at a place and, where it is a call and no comment, makes it. Answers where
 // the next line starts.
@@ -44,7 +42,8 @@ fn run(rt: &impl Print, list: &[u8]) -> io::Result<()> {
 }
 
 fn main(rt: HostRuntime) -> io::Result<()> {
-    let mut list = Vec::new(rt.alloc());
-    rt.reader().take(MOST_BYTES).read_to_end(&mut list)?;
-    run(&rt, &list)
+    let mut room = input::room();
+    let list: &mut [u8] = &mut room;
+    let got = input::read_full(&mut rt.reader(), list)?;
+    run(&rt, &list[..got])
 }
