@@ -4,14 +4,14 @@ use mathlib.Core.List.{List, [], ◌∷◌, ◌++◌, append-nil}
 use mathlib.Core.Path.{◌≡◌, refl, sym, ◌∙◌, ap}
 use Prim.Native.Nat.{ℕ, zero, suc, ◌+◌, ◌*◌, ◌≤◌}
 use native.Mathlib.Omega.{arith}
-use lib.ListN.{length, length-map}
+use lib.ListN.{length}
 use lib.Seq.{take_all}
 use Rattle.geometry.specs.Refusal.{accepted, checked}
 use Rattle.geometry.proofs.Refusals.{passes, passes_alone, first_passes, rest_accepts}
 use Rattle.geometry.specs.Lists.{Each}
 use Rattle.listing.specs.Listing.{joined}
 use Rattle.geometry.proofs.Lists.{each_all, each_up}
-use Rattle.saved.specs.Bytes.{Bytes, written32, number32, pieces, written_all, read_all}
+use Rattle.saved.specs.Bytes.{Bytes, written32, number32, written_all}
 use Rattle.saved.specs.Form.{quad_size}
 use Rattle.saved.specs.Layout.{quad_bytes, group_bytes}
 use Rattle.saved.specs.Read.{count_in, records_in, after_section, ends_early, bad_file, goes_on, section_checks, quad_in, quads_in, groups_in}

@@ -2,10 +2,10 @@
 use mathlib.Core.Bool.{Bool, true, false, ◌&&◌}
 use mathlib.Core.List.{List, [], ◌∷◌}
 use mathlib.Core.Path.{◌≡◌, refl, sym, ◌∙◌, ap}
-use Prim.Native.Nat.{ℕ, ◌+◌, ◌*◌, ◌≤◌}
+use Rattle.std.proofs.Common.{add-one}
+use Prim.Native.Nat.{ℕ, ◌+◌, ◌-◌, ◌*◌}
 use native.Mathlib.Nat.{add-zero}
-use native.Mathlib.Omega.{arith}
-use lib.Dec.{leb}
+use lib.Dec.{leb, leb-suc-suc}
 use lib.ListN.{drop}
 use Rattle.geometry.specs.declared.axis.Axis.{Axis}
 use Rattle.geometry.specs.declared.axis.Axis.TheVariants.{X, Y, Z}
@@ -15,7 +15,7 @@ use Rattle.geometry.specs.Point.{Point, at, along, axis_number}
 use Rattle.geometry.specs.Axes.{axes_of}
 use Rattle.geometry.specs.Quad.{largest_axis, minimum_within_limits, side_within_limits, within_limits}
 use Rattle.geometry.specs.Checks.{bad_quad}
-use Rattle.geometry.specs.Refusal.{accepted, refused, checked, answer}
+use Rattle.geometry.specs.Refusal.{accepted, refused, checked}
 use Rattle.geometry.proofs.Refusals.{applies, passes_alone}
 use Rattle.saved.specs.Bytes.{number32}
 use Rattle.saved.specs.Private.{quad_at, fits_at}
@@ -34,9 +34,13 @@ module _ (b : List ℕ) (from : ℕ) where
   along_stands Z = refl
 
   -- A coordinate is within the limits where a side of 1 is.
+  coordinate : (x : ℕ) → side_within_limits x 1 ≡ leb x (largest_axis - 1)
+  unfolding side_within_limits
+  coordinate x = rw add-one (leb-suc-suc x (largest_axis - 1))
+
   minimum_fits : (side_within_limits point.x 1 && side_within_limits point.y 1 && side_within_limits point.z 1) ≡ minimum_within_limits point
-  unfolding side_within_limits minimum_within_limits
-  minimum_fits = refl
+  unfolding minimum_within_limits
+  minimum_fits = rw (coordinate point.x, coordinate point.y, coordinate point.z)
 
   -- So its numbers tell whether a quad is within the limits.
   pub fits_limits : (a : Axes) {u v : ℕ} → u ≡ 4 * axis_number a.u → v ≡ 4 * axis_number a.v → fits_at b from u v ≡ within_limits a (quad_at b from)

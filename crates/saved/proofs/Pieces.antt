@@ -2,9 +2,9 @@
 use mathlib.Core.List.{List, [], ◌∷◌, ◌++◌, map}
 use mathlib.Core.Path.{◌≡◌, refl, sym, ◌∙◌, ap}
 use Prim.Native.Nat.{ℕ, zero, suc, ◌+◌, ◌-◌, ◌*◌, ◌≤◌, ◌<◌}
-use native.Mathlib.Nat.{zero-add, suc-add, zero-mul, suc-mul, add_comm, add-mul, mul-le-mul_right, not-suc-le-zero}
+use native.Mathlib.Nat.{zero-add, suc-add, zero-mul, add-mul, mul-le-mul_right, not-suc-le-zero}
 use native.Mathlib.Omega.{arith}
-use lib.ListN.{length, take, drop, length-map}
+use lib.ListN.{take, drop}
 use lib.Seq.{take-nil, take-take, drop-drop}
 use Rattle.geometry.specs.Point.{at}
 use Rattle.voxels.proofs.Loops.{more, done}

@@ -1,7 +1,7 @@
 -- What a reader's checks answer and what a reader leaves, by what its code has found: each way that it can end is a case of the definitions.
 use mathlib.Core.List.{List, [], ◌++◌, map}
 use mathlib.Core.Path.{◌≡◌, refl, sym, ◌∙◌, ap}
-use Prim.Native.Nat.{ℕ, ◌+◌, ◌-◌, ◌*◌, ◌/◌, ◌≤◌, ◌<◌}
+use Prim.Native.Nat.{ℕ, ◌-◌, ◌*◌, ◌/◌, ◌≤◌, ◌<◌}
 use native.Mathlib.Nat.{mul-div_cancel}
 use native.Mathlib.Omega.{arith}
 use lib.ListN.{length, take, drop}

@@ -4,11 +4,11 @@ use mathlib.Core.Bool.{Bool, true, false, ◌||◌}
 use mathlib.Core.List.{List, [], ◌∷◌, ◌++◌, map}
 use mathlib.Core.Path.{◌≡◌, refl, sym, ◌∙◌, ap}
 use Prim.Native.Nat.{ℕ, zero, suc, ◌+◌, ◌-◌, ◌*◌, ◌≤◌, ◌<◌}
-use native.Mathlib.Nat.{suc-add, zero-add, zero-mul, mul-one}
+use native.Mathlib.Nat.{zero-mul, mul-one}
 use native.Mathlib.Omega.{arith}
 use lib.Dec.{eqb, ltb, leb-suc-suc}
 use lib.ListN.{length, get_or, take, drop, length-append, length-drop, length-map, drop_of_length-le, get_or-append}
-use lib.Seq.{drop-drop, take-nil, take-take, length-take-le, get_or-take, get_or-drop, get_or-append-add}
+use lib.Seq.{drop-drop, length-take-le, get_or-take, get_or-drop, get_or-append-add}
 use borrow.Author.Tests.{ltb-true, ltb-false, lt-ltb}
 use Rattle.geometry.specs.Refusal.{Answer, accepted, refused, Check, at_place, answer, checked, and_then, follow}
 use Rattle.geometry.proofs.Refusals.{split, refused_number, refused_place, not_both, applies, passes, passes_alone, in_turn, answer_refused}
@@ -49,15 +49,15 @@ left_section : {b rest : List ℕ} (size n k : ℕ) → Left b rest → Left b (
 unfolding from_section_in
 left_section size zero k l = l
 left_section size (suc n) zero l = l
-left_section size (suc n) (suc k) l = left_section size n k (left_after l size)
+left_section {b = b} {rest = rest} size (suc n) (suc k) l = left_section {b = b} {rest = after_section size rest} size n k (left_after l size)
 
 left_quad : {b rest : List ℕ} (size n q : ℕ) → Left b rest → Left b (from_quad_in size n q rest)
 unfolding from_quad_in
 left_quad size zero q l = l
-left_quad {rest = rest} size (suc n) q l =
+left_quad {b = b} {rest = rest} size (suc n) q l =
     split (ltb q (count_in rest))
     (λ t. rw (quad_in_lem size n q rest (ltb-true q (count_in rest) t)) (left_on (left_on l 4) (q * size)))
-    (λ f. rw (quad_past size n q rest (ltb-false q (count_in rest) f)) (left_quad size n (q - count_in rest) (left_after l size)))
+    (λ f. rw (quad_past size n q rest (ltb-false q (count_in rest) f)) (left_quad {b = b} {rest = after_section size rest} size n (q - count_in rest) (left_after l size)))
 
 left_all : (b : List ℕ) → Left b b
 left_all b = record { gone = 0; is = refl }
