@@ -7,7 +7,7 @@ use writing::handed;
 // The most quads that this command holds.
 const MOST_QUADS: u64 = 131072;
 
-#[derive(Drop)]
+#[derive(Clone, Copy)]
 pub struct Facts {
     pub quads: u64,
     pub area: u64,

@@ -1,14 +1,16 @@
 // Reading a saved mesh from standard input.
+ghost use Rattle.std.specs.Prelude.{◌≤◌, length, IfOk};
+
 use crate::{refused, say, space};
 use geometry::axis::SignedAxis;
 use geometry::face::OrientedBlockFace;
-use libc::STDIN_FILENO;
+use std::io::{self, Read};
 
 // The most bytes that this command takes: those of a file of 131,072 quads.
 const MOST_BYTES: usize = 2621474;
 
 // What was read of a file, beside its quads.
-#[derive(Drop)]
+#[derive(Clone, Copy)]
 pub struct File {
     // Whether it was too long or refused, which has been said.
     pub wrong: bool,
@@ -29,26 +31,44 @@ fn unread() -> File {
 }
 
 // Takes the mesh of a file's bytes.
-fn take(bytes: &[u8], quads: &mut [u32]) -> File {
+fn take(err: &impl Print, bytes: &[u8], quads: &mut [u32]) -> io::Result<File> {
     let answer = saved::read_saved(bytes, quads);
     let mesh = answer.mesh;
     let faces = answer.faces;
     let counts = mesh.counts;
-    File {
-        wrong: refused::told(bytes, mesh.refusal, mesh.place),
+    let wrong = refused::told(err, bytes, mesh.refusal, mesh.place)?;
+    Ok(File {
+        wrong,
         bytes: bytes.len() as u64,
         faces: faces,
         counts: counts,
+    })
+}
+
+// Reads until the bytes are full or the input ends, and answers how many it put at their start.
+fn read_full(input: &mut impl Read, bytes: &mut [u8]) -> io::Result<usize>
+    ensures { IfOk result (λ n. n ≤ length bytes.new) }
+{
+    let mut done: usize = 0;
+    while done < bytes.len() {
+        let n = input.read(&mut bytes[done..])?;
+        if n == 0 {
+            return Ok(done);
+        }
+        done += n;
     }
+    Ok(done)
 }
 
 // Reads a file, its quads into the output, or says what is wrong.
-pub fn read(quads: &mut [u32]) -> File {
-    let mut bytes = space::bytes();
-    let got = io::read_full(STDIN_FILENO, &mut bytes);
+pub fn read(rt: &impl Input, err: &impl Print, quads: &mut [u32]) -> io::Result<File> {
+    let mut input = rt.reader();
+    let mut room = space::bytes();
+    let bytes: &mut [u8] = &mut room;
+    let got = read_full(&mut input, bytes)?;
     if got > MOST_BYTES {
-        say::long_file();
-        return unread();
+        say::long_file(err)?;
+        return Ok(unread());
     }
-    take(&bytes[..got], quads)
+    take(err, &bytes[..got], quads)
 }

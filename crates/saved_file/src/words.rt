@@ -1,8 +1,11 @@
 // The word of the command line.
 use crate::say;
+use std::env::FillError;
+use std::io;
+use std::rt::Env;
 
 // What is asked for.
-#[derive(Drop)]
+#[derive(Clone, Copy)]
 pub enum Job {
     Info,
     Obj,
@@ -11,40 +14,59 @@ pub enum Job {
 }
 
 // What a word asks for.
-fn asked(text: &[u8]) -> Job {
-    if check::same(text, b"info") {
-        return Job::Info;
+fn asked(err: &impl Print, text: &[u8]) -> io::Result<Job> {
+    if text == b"info".as_slice() {
+        return Ok(Job::Info);
     }
-    if check::same(text, b"obj") {
-        return Job::Obj;
+    if text == b"obj".as_slice() {
+        return Ok(Job::Obj);
     }
-    say::text(b"saved_file: word 1, '");
-    say::text(text);
-    say::text(b"', is neither info nor obj\n");
-    Job::Wrong
+    say::text(err, b"saved_file: word 1, '")?;
+    say::text(err, text)?;
+    say::text(err, b"', is neither info nor obj\n")?;
+    Ok(Job::Wrong)
+}
+
+// How many words there are.
+fn count(rt: &impl Env) -> u64 {
+    let mut text = [0u8; 64];
+    for i in 1..u64::MAX {
+        match rt.arg(i as usize, &mut text) {
+            Err(FillError::NotPresent) => return i - 1,
+            _ => {}
+        }
+    }
+    u64::MAX
 }
 
 // What the words of the command line ask for.
-pub fn read() -> Job {
-    let count = os::arg_count();
-    if count < 2 {
-        say::text(b"saved_file: takes one word, info or obj, and none came\n");
-        return Job::Wrong;
+pub fn read(rt: &impl Env, err: &impl Print) -> io::Result<Job> {
+    let words = count(rt);
+    if words < 1 {
+        say::text(
+            err,
+            b"saved_file: takes one word, info or obj, and none came\n",
+        )?;
+        return Ok(Job::Wrong);
     }
-    if count > 2 {
-        let words = count as u64 - 1;
+    if words > 1 {
         say::sentence(
+            err,
             b"saved_file: takes one word, info or obj, and ",
             words,
             b" came\n",
-        );
-        return Job::Wrong;
+        )?;
+        return Ok(Job::Wrong);
     }
     let mut text = [0u8; 64];
-    let n = os::arg(1, &mut text);
-    if os::errno() != 0 {
-        say::text(b"saved_file: word 1, '..', is too long for any word of saved_file\n");
-        return Job::Wrong;
+    match rt.arg(1, &mut text) {
+        Ok(n) => asked(err, &text[..n]),
+        Err(_) => {
+            say::text(
+                err,
+                b"saved_file: word 1, '..', is too long for any word of saved_file\n",
+            )?;
+            Ok(Job::Wrong)
+        }
     }
-    asked(&text[..n])
 }
