@@ -1,6 +1,6 @@
 /* Spunmarrow: quads from blocks of voxels. The C interface.
  *
- * Link with libspunmarrow.a, which `rt staticlib spunmarrow` writes to target/staticlib/, on x86-64 Linux:
+ * Link with libspunmarrow.a, which host/archive writes to target/staticlib/, on x86-64 Linux:
  *     cc -Iinclude FILE.c target/staticlib/libspunmarrow.a
  * Plain C99; C++17 takes it as well. host/mesh_file.c, with host/block.c, is a program to copy. The archive needs
  * memset of the C library and nothing else, and any x86-64 processor will do: it has no instruction past SSE2.
@@ -17,7 +17,7 @@
  *   - The processor's floating-point mode is the default: round to nearest, subnormals kept (a program built with
  *     -ffast-math may have changed it), exceptions masked. spunmarrow_corner rests on it. The drawing calls may raise
  *     exception flags, and clear none.
- *   - There is stack for the call. The most that was measured is 1,099 bytes, of greedy meshing, with its arguments and
+ *   - There is stack for the call. The most that was measured is 840 bytes, of greedy meshing, with its arguments and
  *     memset's part among them (host/stack.c); 2 KB are ample.
  * Given that, any numbers at all may be handed in. Nothing is read or written but what the buffers have, nothing is
  * allocated, nothing is kept from call to call, and every call ends. Calls from several threads at once are fine where

@@ -27,7 +27,7 @@ tools_native() {
 }
 
 # The tools for x86-64 programs, which is what the archive links into: the machine's own on x86-64; else Debian's compilers for
-# x86-64 and an emulator, with the loader and C library that the kit keeps for its programs.
+# x86-64 and an emulator, with the loader and C library of those compilers.
 tools_x86_64() {
     if [ "$(uname -m)" = x86_64 ]; then
         tools_native
@@ -40,13 +40,10 @@ tools_x86_64() {
     [ -e /usr/x86_64-linux-gnu/lib/libc.so ] || missing="$missing libc6-dev-amd64-cross"
     command -v qemu-x86_64 >/dev/null || missing="$missing qemu-user"
     [ -z "$missing" ] || install_packages $missing
-    command -v rt >/dev/null || die "missing: rt, the command of the Rattle kit, whose loader and C library run x86-64 programs here"
-    kit=${RATTLE_HOME:-$(dirname "$(dirname "$(rt doc)")")}
-    loader=$kit/toolchain/lib/ld-linux-x86-64.so.2
-    [ -e "$loader" ] || die "missing: $loader, the kit's loader for x86-64 programs"
     rustc=/usr/bin/rustc cc=x86_64-linux-gnu-gcc ar=x86_64-linux-gnu-ar
     rust_target="--target x86_64-unknown-linux-gnu -C linker=x86_64-linux-gnu-gcc"
-    runner="qemu-x86_64 $loader --library-path $kit/toolchain/lib"
+    libraries=/usr/x86_64-linux-gnu/lib
+    runner="qemu-x86_64 $libraries/ld-linux-x86-64.so.2 --library-path $libraries"
 }
 
 # compile_crate NAME FILE [WORDS..]: one library of Rust, with those built before at hand.

@@ -5,92 +5,93 @@ use geometry::face::{
     PositionAnswer, PositionsAnswer, SignedNormalAnswer, TexCoordsAnswer, VertexIndex,
 };
 use geometry::quad::{UnorientedQuad, UnorientedUnitQuad};
+use std::io;
 
 // A face's normals at a quad's four corners.
-fn normals(came: NormalsAnswer) {
+fn normals(rt: &impl Print, came: NormalsAnswer) -> io::Result<()> {
     match came {
         NormalsAnswer::Normals(q) => {
-            show::floats(q.minu_minv.x, q.minu_minv.y, q.minu_minv.z);
-            show::floats(q.maxu_minv.x, q.maxu_minv.y, q.maxu_minv.z);
-            show::floats(q.minu_maxv.x, q.minu_maxv.y, q.minu_maxv.z);
-            show::floats(q.maxu_maxv.x, q.maxu_maxv.y, q.maxu_maxv.z);
+            show::floats(rt, q.minu_minv.x, q.minu_minv.y, q.minu_minv.z)?;
+            show::floats(rt, q.maxu_minv.x, q.maxu_minv.y, q.maxu_minv.z)?;
+            show::floats(rt, q.minu_maxv.x, q.minu_maxv.y, q.minu_maxv.z)?;
+            show::floats(rt, q.maxu_maxv.x, q.maxu_maxv.y, q.maxu_maxv.z)
         }
-        NormalsAnswer::Refused(n) => show::number(n),
+        NormalsAnswer::Refused(n) => show::number(rt, n),
     }
 }
 
 // The face that a sign and a permutation make.
-fn made(came: FaceAnswer) {
+fn made(rt: &impl Print, came: FaceAnswer) -> io::Result<()> {
     match came {
-        FaceAnswer::Face(f) => show::face(f),
-        FaceAnswer::Refused(n) => show::number(n),
+        FaceAnswer::Face(f) => show::face(rt, f),
+        FaceAnswer::Refused(n) => show::number(rt, n),
     }
 }
 
 // A face's signed normal.
-fn normal(came: SignedNormalAnswer) {
+fn normal(rt: &impl Print, came: SignedNormalAnswer) -> io::Result<()> {
     match came {
-        SignedNormalAnswer::SignedNormal(v) => show::direction(v),
-        SignedNormalAnswer::Refused(n) => show::number(n),
+        SignedNormalAnswer::SignedNormal(v) => show::direction(rt, v),
+        SignedNormalAnswer::Refused(n) => show::number(rt, n),
     }
 }
 
 // A sign and a permutation's number: the face that is made of them. Then, of the face as it is given,
 // check 6, the signed normal and the normals.
-pub fn face(list: &[u8], at: usize) {
-    let given = given::face(list, at);
+pub fn face(rt: &impl Print, list: &[u8], at: usize) -> io::Result<()> {
+    let given = given::face(rt, list, at)?;
     let f = given.face;
     let permutation = f.permutation;
-    made(OrientedBlockFace::new(f.n_sign, permutation));
-    show::check(f.check_sign());
-    normal(f.signed_normal());
-    normals(f.quad_mesh_normals());
+    made(rt, OrientedBlockFace::new(f.n_sign, permutation))?;
+    show::check(rt, f.check_sign())?;
+    normal(rt, f.signed_normal())?;
+    normals(rt, f.quad_mesh_normals())
 }
 
 // The point of a unit quad: the quad that it is.
-pub fn unit_quad(list: &[u8], at: usize) {
+pub fn unit_quad(rt: &impl Print, list: &[u8], at: usize) -> io::Result<()> {
     let given = given::point(list, at);
     let minimum = given.point;
     let q = UnorientedQuad::from(UnorientedUnitQuad { minimum });
-    show::point(q.minimum);
-    show::more(q.width);
-    show::more(q.height);
+    show::point(rt, q.minimum)?;
+    show::more(rt, q.width)?;
+    show::more(rt, q.height)
 }
 
 // A face and a quad: check 12 by itself. Then the four corners.
-pub fn corners(list: &[u8], at: usize) {
-    let on = given::face(list, at);
+pub fn corners(rt: &impl Print, list: &[u8], at: usize) -> io::Result<()> {
+    let on = given::face(rt, list, at)?;
     let of = given::quad(list, on.next);
-    show::check(on.face.check_quad(of.quad));
+    show::check(rt, on.face.check_quad(of.quad))?;
     match on.face.quad_corners(of.quad) {
         CornersAnswer::Corners(k) => {
-            show::point(k.minu_minv);
-            show::point(k.maxu_minv);
-            show::point(k.minu_maxv);
-            show::point(k.maxu_maxv);
+            show::point(rt, k.minu_minv)?;
+            show::point(rt, k.maxu_minv)?;
+            show::point(rt, k.minu_maxv)?;
+            show::point(rt, k.maxu_maxv)
         }
-        CornersAnswer::Refused(n) => show::number(n),
+        CornersAnswer::Refused(n) => show::number(rt, n),
     }
 }
 
 // The position of a corner.
-fn one(came: PositionAnswer) {
+fn one(rt: &impl Print, came: PositionAnswer) -> io::Result<()> {
     match came {
-        PositionAnswer::Position(x, y, z) => show::floats(x, y, z),
-        PositionAnswer::Refused(n) => show::number(n),
+        PositionAnswer::Position(x, y, z) => show::floats(rt, x, y, z),
+        PositionAnswer::Refused(n) => show::number(rt, n),
     }
 }
 
 // The positions of a quad's four corners.
-fn four(came: PositionsAnswer) {
+fn four(rt: &impl Print, came: PositionsAnswer) -> io::Result<()> {
     match came {
         PositionsAnswer::Positions(p) => {
-            show::floats(p.minu_minv.x, p.minu_minv.y, p.minu_minv.z);
-            show::floats(p.maxu_minv.x, p.maxu_minv.y, p.maxu_minv.z);
-            show::floats(p.minu_maxv.x, p.minu_maxv.y, p.minu_maxv.z);
-            show::floats(p.maxu_maxv.x, p.maxu_maxv.y, p.maxu_maxv.z);
+            show::floats(rt, p.minu_minv.x, p.minu_minv.y, p.minu_minv.z)?;
+            show::floats(rt, p.maxu_minv.x, p.maxu_minv.y, p.maxu_minv.z)?;
+            show::floats(rt, p.minu_maxv.x, p.minu_maxv.y, p.minu_maxv.z)?;
+            show::floats(rt, p.maxu_maxv.x, p.maxu_maxv.y, p.maxu_maxv.z)
         }
-        PositionsAnswer::Refused(n) => show::number(n),
+        PositionsAnswer::Refused(n) => show::number(rt, n),
     }
 }
 
@@ -105,39 +106,40 @@ fn corner(number: u32) -> Corner {
 }
 
 // A face, a quad, a size and a corner: the corner's position. Then those of all four.
-pub fn position(list: &[u8], at: usize) {
-    let on = given::face(list, at);
+pub fn position(rt: &impl Print, list: &[u8], at: usize) -> io::Result<()> {
+    let on = given::face(rt, list, at)?;
     let of = given::quad(list, on.next);
     let bits = text::number(list, of.next);
     let which = text::number(list, bits.next);
     let size = given::float(bits.value);
     one(
+        rt,
         on.face
             .quad_mesh_position(of.quad, corner(which.value), size),
-    );
-    four(on.face.quad_mesh_positions(of.quad, size));
+    )?;
+    four(rt, on.face.quad_mesh_positions(of.quad, size))
 }
 
 // A face and its first vertex: the six vertices of two triangles.
-pub fn indices(list: &[u8], at: usize) {
-    let on = given::face(list, at);
+pub fn indices(rt: &impl Print, list: &[u8], at: usize) -> io::Result<()> {
+    let on = given::face(rt, list, at)?;
     let start = text::number(list, on.next);
     match on.face.quad_mesh_indices(VertexIndex(start.value)) {
         IndicesAnswer::Indices(i) => {
-            show::number(i.0.0);
-            show::number(i.1.0);
-            show::number(i.2.0);
-            show::number(i.3.0);
-            show::number(i.4.0);
-            show::number(i.5.0);
+            show::number(rt, i.0.0)?;
+            show::number(rt, i.1.0)?;
+            show::number(rt, i.2.0)?;
+            show::number(rt, i.3.0)?;
+            show::number(rt, i.4.0)?;
+            show::number(rt, i.5.0)
         }
-        IndicesAnswer::Refused(n) => show::number(n),
+        IndicesAnswer::Refused(n) => show::number(rt, n),
     }
 }
 
 // A face, a quad, the axis whose faces have u flipped, and whether v is flipped: four texture pairs.
-pub fn textures(list: &[u8], at: usize) {
-    let on = given::face(list, at);
+pub fn textures(rt: &impl Print, list: &[u8], at: usize) -> io::Result<()> {
+    let on = given::face(rt, list, at)?;
     let of = given::quad(list, on.next);
     let axis = text::number(list, of.next);
     let flip = text::number(list, axis.next);
@@ -146,11 +148,11 @@ pub fn textures(list: &[u8], at: usize) {
         .tex_coords(given::axis(axis.value), flip.value != 0, of.quad)
     {
         TexCoordsAnswer::TexCoords(t) => {
-            show::floats(t.minu_minv.u, t.minu_minv.v, t.maxu_minv.u);
-            show::floats(t.maxu_minv.v, t.minu_maxv.u, t.minu_maxv.v);
-            show::float(t.maxu_maxv.u);
-            show::float(t.maxu_maxv.v);
+            show::floats(rt, t.minu_minv.u, t.minu_minv.v, t.maxu_minv.u)?;
+            show::floats(rt, t.maxu_minv.v, t.minu_maxv.u, t.minu_maxv.v)?;
+            show::float(rt, t.maxu_maxv.u)?;
+            show::float(rt, t.maxu_maxv.v)
         }
-        TexCoordsAnswer::Refused(n) => show::number(n),
+        TexCoordsAnswer::Refused(n) => show::number(rt, n),
     }
 }

@@ -4,6 +4,7 @@ use geometry::axis::{Axis, AxisPermutation, PermutationAnswer};
 use geometry::face::OrientedBlockFace;
 use geometry::quad::UnorientedQuad;
 use geometry::vector::UVec3;
+use std::io;
 
 // A face, and where the list goes on.
 #[derive(Clone, Copy)]
@@ -54,28 +55,28 @@ pub fn axis(index: u32) -> Axis {
 }
 
 // A permutation by its number. A question mark is printed where there is none.
-fn permutation(number: u32) -> AxisPermutation {
+fn permutation(rt: &impl Print, number: u32) -> io::Result<AxisPermutation> {
     match AxisPermutation::from_number(number) {
-        PermutationAnswer::Permutation(p) => p,
+        PermutationAnswer::Permutation(p) => Ok(p),
         PermutationAnswer::Refused(_) => {
-            show::byte(b'?');
-            AxisPermutation::Xyz
+            show::byte(rt, b'?')?;
+            Ok(AxisPermutation::Xyz)
         }
     }
 }
 
 // A face: its sign and its permutation's number.
-pub fn face(list: &[u8], at: usize) -> FaceGiven {
+pub fn face(rt: &impl Print, list: &[u8], at: usize) -> io::Result<FaceGiven> {
     let sign = text::number(list, at);
     let order = text::number(list, sign.next);
     let face = OrientedBlockFace {
         n_sign: signed(sign.value),
-        permutation: permutation(order.value),
+        permutation: permutation(rt, order.value)?,
     };
-    FaceGiven {
+    Ok(FaceGiven {
         face,
         next: order.next,
-    }
+    })
 }
 
 // A point: its three numbers.

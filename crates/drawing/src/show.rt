@@ -3,99 +3,99 @@
 use geometry::face::OrientedBlockFace;
 use geometry::refusal::CheckAnswer;
 use geometry::vector::{IVec3, UVec3};
-use libc::STDOUT_FILENO;
+use std::io;
 
 // A byte.
-pub fn byte(b: u8) {
+pub fn byte(rt: &impl Print, b: u8) -> io::Result<()> {
     let one = [b];
-    io::write_all(STDOUT_FILENO, &one);
+    rt.write_all(&one)
 }
 
 // A number of 64 bits.
-pub fn long(n: u64) {
-    byte(b' ');
-    io::print_decimal(STDOUT_FILENO, n);
+pub fn long(rt: &impl Print, n: u64) -> io::Result<()> {
+    byte(rt, b' ')?;
+    rt.print(n)
 }
 
 // A number.
-pub fn number(n: u32) {
-    long(n as u64);
+pub fn number(rt: &impl Print, n: u32) -> io::Result<()> {
+    long(rt, n as u64)
 }
 
 // A number after the first of a point or a quad.
-pub fn more(n: u32) {
-    byte(b',');
-    io::print_decimal(STDOUT_FILENO, n as u64);
+pub fn more(rt: &impl Print, n: u32) -> io::Result<()> {
+    byte(rt, b',')?;
+    rt.print(n)
 }
 
 // A sign that geometry gives, or a part of a normal: 1, 0 or -1. Another is written as a question mark.
-pub fn sign(n: i32) {
+pub fn sign(rt: &impl Print, n: i32) -> io::Result<()> {
     match n {
-        1 => number(1),
-        0 => number(0),
+        1 => number(rt, 1),
+        0 => number(rt, 0),
         -1 => {
-            byte(b' ');
-            byte(b'-');
-            byte(b'1');
+            byte(rt, b' ')?;
+            byte(rt, b'-')?;
+            byte(rt, b'1')
         }
-        _ => byte(b'?'),
+        _ => byte(rt, b'?'),
     }
 }
 
 // A point's three numbers.
-pub fn point(p: UVec3) {
-    number(p.x);
-    more(p.y);
-    more(p.z);
+pub fn point(rt: &impl Print, p: UVec3) -> io::Result<()> {
+    number(rt, p.x)?;
+    more(rt, p.y)?;
+    more(rt, p.z)
 }
 
 // A direction's three numbers.
-pub fn direction(v: IVec3) {
-    sign(v.x);
-    sign(v.y);
-    sign(v.z);
+pub fn direction(rt: &impl Print, v: IVec3) -> io::Result<()> {
+    sign(rt, v.x)?;
+    sign(rt, v.y)?;
+    sign(rt, v.z)
 }
 
 // A face: its sign and its permutation's number.
-pub fn face(f: OrientedBlockFace) {
-    sign(f.n_sign);
+pub fn face(rt: &impl Print, f: OrientedBlockFace) -> io::Result<()> {
+    sign(rt, f.n_sign)?;
     let p = f.permutation;
-    number(p.number());
+    number(rt, p.number())
 }
 
 // Bits, as eight digits of base 16 after an x.
-fn pattern(bits: u32) {
-    byte(b' ');
-    byte(b'x');
-    io::print_hex(STDOUT_FILENO, bits as u64, 8);
+fn pattern(rt: &impl Print, bits: u32) -> io::Result<()> {
+    byte(rt, b' ')?;
+    byte(rt, b'x')?;
+    print!(rt; "{bits:08x}")
 }
 
 // An f32 number, by its bits. A NaN, which no call gives, is written as a question mark.
-pub fn float(x: f32) {
+pub fn float(rt: &impl Print, x: f32) -> io::Result<()> {
     if x != x {
-        byte(b'?');
+        byte(rt, b'?')
     } else {
-        pattern(f32::to_bits(x));
+        pattern(rt, f32::to_bits(x))
     }
 }
 
 // Three f32 numbers.
-pub fn floats(x: f32, y: f32, z: f32) {
-    float(x);
-    float(y);
-    float(z);
+pub fn floats(rt: &impl Print, x: f32, y: f32, z: f32) -> io::Result<()> {
+    float(rt, x)?;
+    float(rt, y)?;
+    float(rt, z)
 }
 
 // A refusal and its place.
-pub fn refusal(n: u32, place: u64) {
-    number(n);
-    long(place);
+pub fn refusal(rt: &impl Print, n: u32, place: u64) -> io::Result<()> {
+    number(rt, n)?;
+    long(rt, place)
 }
 
 // What a check answers: 0, or a refusal and its place.
-pub fn check(came: CheckAnswer) {
+pub fn check(rt: &impl Print, came: CheckAnswer) -> io::Result<()> {
     match came {
-        CheckAnswer::Passed => number(0),
-        CheckAnswer::Refused(n, place) => refusal(n, place),
+        CheckAnswer::Passed => number(rt, 0),
+        CheckAnswer::Refused(n, place) => refusal(rt, n, place),
     }
 }

@@ -4,6 +4,7 @@ use geometry::axis::AxisPermutation;
 use geometry::face::OrientedBlockFace;
 use geometry::vector::UVec3;
 use listing::MeshAnswer;
+use std::io;
 use voxels::bounds;
 use voxels::bounds::EntryAnswer;
 
@@ -17,7 +18,7 @@ struct Meshing {
 }
 
 // Six faces.
-fn six_faces(list: &[u8], at: usize) -> [OrientedBlockFace; 6] {
+fn six_faces(rt: &impl Print, list: &[u8], at: usize) -> io::Result<[OrientedBlockFace; 6]> {
     let none = OrientedBlockFace {
         n_sign: 0,
         permutation: AxisPermutation::Xyz,
@@ -26,75 +27,77 @@ fn six_faces(list: &[u8], at: usize) -> [OrientedBlockFace; 6] {
     let mut from = at;
     let mut k: usize = 0;
     while k < 6 {
-        let given = given::face(list, from);
+        let given = given::face(rt, list, from)?;
         let face = given.face;
         faces[k] = face;
         from = given.next;
         k += 1;
     }
-    faces
+    Ok(faces)
 }
 
 // A shape, a box and six faces, after `/ `.
-fn what_is_meshed(list: &[u8], at: usize) -> Meshing {
+fn what_is_meshed(rt: &impl Print, list: &[u8], at: usize) -> io::Result<Meshing> {
     let first = given::point(list, text::next(text::next(at)));
     let second = given::point(list, first.next);
     let third = given::point(list, second.next);
-    let faces = six_faces(list, third.next);
+    let faces = six_faces(rt, list, third.next)?;
     let shape = first.point;
     let min = second.point;
     let max = third.point;
-    Meshing {
+    Ok(Meshing {
         shape,
         min,
         max,
         faces,
-    }
+    })
 }
 
 // What an entry answers: how many voxels the shape has, and where the interior starts and ends; or
 // a refusal and its place.
-fn entry(came: EntryAnswer) {
+fn entry(rt: &impl Print, came: EntryAnswer) -> io::Result<()> {
     match came {
         EntryAnswer::Entered(e) => {
-            show::number(e.size);
-            show::point(e.interior.minimum);
-            show::point(e.interior.bound);
+            show::number(rt, e.size)?;
+            show::point(rt, e.interior.minimum)?;
+            show::point(rt, e.interior.bound)
         }
-        EntryAnswer::Refused(n, place) => show::refusal(n, place),
+        EntryAnswer::Refused(n, place) => show::refusal(rt, n, place),
     }
 }
 
 // What a mesher answers: its refusal and place, and its six counts.
-fn answer(came: MeshAnswer) {
-    show::refusal(came.refusal, came.place);
+fn answer(rt: &impl Print, came: MeshAnswer) -> io::Result<()> {
+    show::refusal(rt, came.refusal, came.place)?;
     let counts = came.counts;
     let mut k: usize = 0;
     while k < 6 {
-        show::long(counts[k]);
+        show::long(rt, counts[k])?;
         k += 1;
     }
+    Ok(())
 }
 
 // A number of an output that stands at a place of its quad, of so many numbers. Answers the next place.
-fn listed(n: u32, place: usize, numbers: usize) -> usize {
+fn listed(rt: &impl Print, n: u32, place: usize, numbers: usize) -> io::Result<usize> {
     if place == 0 {
-        show::number(n);
+        show::number(rt, n)?;
     } else {
-        show::more(n);
+        show::more(rt, n)?;
     }
     let after = text::next(place);
-    if after == numbers { 0 } else { after }
+    Ok(if after == numbers { 0 } else { after })
 }
 
 // All numbers of an output, so many to a quad.
-fn output(out: &[u32], numbers: usize) {
+fn output(rt: &impl Print, out: &[u32], numbers: usize) -> io::Result<()> {
     let mut place: usize = 0;
     let mut k: usize = 0;
     while k < out.len() {
-        place = listed(out[k], place, numbers);
+        place = listed(rt, out[k], place, numbers)?;
         k += 1;
     }
+    Ok(())
 }
 
 // How many visited bytes are 0, if they are the first ones and all others are 255 as before, and else
@@ -138,19 +141,31 @@ fn fill(list: &[u8], from: usize, voxels: &mut [u16]) -> usize {
 }
 
 // Unit meshing: check 6, its entry, its answer and its output.
-fn unit(m: Meshing, voxels: &[u16], out: &mut [u32]) {
+fn unit(rt: &impl Print, m: Meshing, voxels: &[u16], out: &mut [u32]) -> io::Result<()> {
     let faces = m.faces;
-    show::check(bounds::check_faces(faces));
-    entry(bounds::enter_unit(voxels, m.shape, m.min, m.max, faces));
-    answer(simple::visible_block_faces(voxels, m.shape, m.min, m.max, faces, &mut *out));
-    output(out, 3);
+    show::check(rt, bounds::check_faces(faces))?;
+    entry(rt, bounds::enter_unit(voxels, m.shape, m.min, m.max, faces))?;
+    answer(
+        rt,
+        simple::visible_block_faces(voxels, m.shape, m.min, m.max, faces, &mut *out),
+    )?;
+    output(rt, out, 3)
 }
 
 // Greedy meshing: its entry, its answer with the tests, how many visited bytes are 0, and its output.
-fn greedy(m: Meshing, voxels: &[u16], visited: &mut [u8], out: &mut [u32]) {
+fn greedy(
+    rt: &impl Print,
+    m: Meshing,
+    voxels: &[u16],
+    visited: &mut [u8],
+    out: &mut [u32],
+) -> io::Result<()> {
     let faces = m.faces;
     let lent = visited.len();
-    entry(bounds::enter_greedy(voxels, m.shape, m.min, m.max, faces, lent));
+    entry(
+        rt,
+        bounds::enter_greedy(voxels, m.shape, m.min, m.max, faces, lent),
+    )?;
     let came = greedy::greedy_quads(
         voxels,
         m.shape,
@@ -160,15 +175,15 @@ fn greedy(m: Meshing, voxels: &[u16], visited: &mut [u8], out: &mut [u32]) {
         &mut *visited,
         &mut *out,
     );
-    answer(came.mesh);
-    show::long(came.tests);
-    show::long(cleared(visited));
-    output(out, 5);
+    answer(rt, came.mesh)?;
+    show::long(rt, came.tests)?;
+    show::long(rt, cleared(visited))?;
+    output(rt, out, 5)
 }
 
 // A mesher that is lent so many voxels, visited bytes and numbers of output: greedy meshing for 'g', and
 // else unit meshing.
-pub fn lent(list: &[u8], at: usize, letter: u8) {
+pub fn lent(rt: &impl Print, list: &[u8], at: usize, letter: u8) -> io::Result<()> {
     let v = text::number(list, at);
     let m = text::number(list, v.next);
     let n = text::number(list, m.next);
@@ -180,15 +195,16 @@ pub fn lent(list: &[u8], at: usize, letter: u8) {
     let number_count = (n.value % 65) as usize;
     let voxels: &mut [u16] = &mut room[..voxel_count];
     let past = fill(list, n.next, &mut *voxels);
-    let what = what_is_meshed(list, past);
+    let what = what_is_meshed(rt, list, past)?;
     if letter == b'g' {
         greedy(
+            rt,
             what,
             voxels,
             &mut marks[..mark_count],
             &mut numbers[..number_count],
-        );
+        )
     } else {
-        unit(what, voxels, &mut numbers[..number_count]);
+        unit(rt, what, voxels, &mut numbers[..number_count])
     }
 }

@@ -2,48 +2,48 @@
 // within a point or a quad.
 use geometry::refusal::CheckAnswer;
 use geometry::vector::UVec3;
-use libc::STDOUT_FILENO;
+use std::io;
 
 // A byte.
-pub fn byte(b: u8) {
+pub fn byte(rt: &impl Print, b: u8) -> io::Result<()> {
     let one = [b];
-    io::write_all(STDOUT_FILENO, &one);
+    rt.write_all(&one)
 }
 
 // A number of 64 bits.
-pub fn long(n: u64) {
-    byte(b' ');
-    io::print_decimal(STDOUT_FILENO, n);
+pub fn long(rt: &impl Print, n: u64) -> io::Result<()> {
+    byte(rt, b' ')?;
+    rt.print(n)
 }
 
 // A number.
-pub fn number(n: u32) {
-    long(n as u64);
+pub fn number(rt: &impl Print, n: u32) -> io::Result<()> {
+    long(rt, n as u64)
 }
 
 // A number after the first of a point or a quad.
-pub fn more(n: u32) {
-    byte(b',');
-    io::print_decimal(STDOUT_FILENO, n as u64);
+pub fn more(rt: &impl Print, n: u32) -> io::Result<()> {
+    byte(rt, b',')?;
+    rt.print(n)
 }
 
 // A point's three numbers.
-pub fn point(p: UVec3) {
-    number(p.x);
-    more(p.y);
-    more(p.z);
+pub fn point(rt: &impl Print, p: UVec3) -> io::Result<()> {
+    number(rt, p.x)?;
+    more(rt, p.y)?;
+    more(rt, p.z)
 }
 
 // A refusal and its place.
-pub fn refusal(n: u32, place: u64) {
-    number(n);
-    long(place);
+pub fn refusal(rt: &impl Print, n: u32, place: u64) -> io::Result<()> {
+    number(rt, n)?;
+    long(rt, place)
 }
 
 // What a check answers: 0, or a refusal and its place.
-pub fn check(came: CheckAnswer) {
+pub fn check(rt: &impl Print, came: CheckAnswer) -> io::Result<()> {
     match came {
-        CheckAnswer::Passed => number(0),
-        CheckAnswer::Refused(n, place) => refusal(n, place),
+        CheckAnswer::Passed => number(rt, 0),
+        CheckAnswer::Refused(n, place) => refusal(rt, n, place),
     }
 }

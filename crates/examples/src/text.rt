@@ -1,5 +1,5 @@
 // The text of a list: its numbers have one byte after each.
-use libc::STDOUT_FILENO;
+use std::io;
 
 // A number of the list.
 #[derive(Clone, Copy)]
@@ -32,14 +32,14 @@ pub fn find(text: &[u8], from: usize, stop: u8) -> usize {
 }
 
 // Prints a part of the text.
-pub fn put_part(text: &[u8], from: usize, end: usize) {
+pub fn put_part(rt: &impl Print, text: &[u8], from: usize, end: usize) -> io::Result<()> {
     if end > text.len() {
-        return;
+        return Ok(());
     }
     if from > end {
-        return;
+        return Ok(());
     }
-    io::write_all(STDOUT_FILENO, &text[from..end]);
+    rt.write_all(&text[from..end])
 }
 
 // A number with a digit more, modulo 2 to the 32nd.

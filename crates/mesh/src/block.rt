@@ -1,7 +1,9 @@
 // Reading a block of voxels from standard input.
+ghost use Rattle.std.specs.Prelude.{◌≤◌, length, IfOk};
+
 use crate::{say, space};
 use geometry::LARGEST_AXIS;
-use libc::STDIN_FILENO;
+use std::io::{self, Read};
 
 // The most voxels that this command takes.
 pub const MOST_VOXELS: u32 = 262144;
@@ -46,50 +48,72 @@ fn decode(bytes: &[u8], voxels: &mut [u16]) {
     }
 }
 
-// Whether standard input goes on.
-fn goes_on() -> bool {
+// Reads until the bytes are full or the input ends, and answers how many it put at their start.
+fn read_full(input: &mut impl Read, bytes: &mut [u8]) -> io::Result<usize>
+    ensures { IfOk result (λ n. n ≤ length bytes.new) }
+{
+    let mut done: usize = 0;
+    while done < bytes.len() {
+        let n = input.read(&mut bytes[done..])?;
+        if n == 0 {
+            return Ok(done);
+        }
+        done += n;
+    }
+    Ok(done)
+}
+
+// Whether the input goes on.
+fn goes_on(input: &mut impl Read) -> io::Result<bool> {
     let mut more = [0u8; 1];
-    let got = io::read_full(STDIN_FILENO, &mut more);
-    got > 0
+    let got = read_full(input, &mut more)?;
+    Ok(got > 0)
 }
 
 // Says how many bytes the block has.
-fn say_bytes(wanted: usize) {
+fn say_bytes(err: &impl Print, wanted: usize) -> io::Result<()> {
     say::sentence(
+        err,
         b"mesh: the block has ",
         wanted as u64,
         b" bytes, two for each voxel, ",
-    );
+    )
 }
 
 // Reads the bytes of a block of so many voxels, and nothing more is there to read. Says what is
 // wrong, and answers false, where standard input has fewer bytes or more.
-fn read_bytes(size: u32, bytes: &mut [u8]) -> bool {
+fn read_bytes(
+    input: &mut impl Read,
+    err: &impl Print,
+    size: u32,
+    bytes: &mut [u8],
+) -> io::Result<bool> {
     let wanted = size as usize * 2;
     if wanted > bytes.len() {
-        return false;
+        return Ok(false);
     }
-    let got = io::read_full(STDIN_FILENO, &mut bytes[..wanted]);
+    let got = read_full(input, &mut bytes[..wanted])?;
     if got < wanted {
-        say_bytes(wanted);
-        say::sentence(b"and standard input ended after ", got as u64, b"\n");
-        return false;
+        say_bytes(err, wanted)?;
+        say::sentence(err, b"and standard input ended after ", got as u64, b"\n")?;
+        return Ok(false);
     }
-    if goes_on() {
-        say_bytes(wanted);
-        say::text(b"and standard input has more\n");
-        return false;
+    if goes_on(input)? {
+        say_bytes(err, wanted)?;
+        say::text(err, b"and standard input has more\n")?;
+        return Ok(false);
     }
-    true
+    Ok(true)
 }
 
 // Reads a block of so many voxels, or says what is wrong and answers false.
-pub fn read(size: u32, voxels: &mut [u16]) -> bool {
+pub fn read(rt: &impl Input, err: &impl Print, size: u32, voxels: &mut [u16]) -> io::Result<bool> {
+    let mut input = rt.reader();
     let mut room = space::bytes();
     let bytes: &mut [u8] = &mut room;
-    if !read_bytes(size, bytes) {
-        return false;
+    if !read_bytes(&mut input, err, size, bytes)? {
+        return Ok(false);
     }
     decode(bytes, voxels);
-    true
+    Ok(true)
 }

@@ -21,6 +21,7 @@ use geometry::face::OrientedBlockFace;
 use geometry::refusal::CheckAnswer;
 use greedy::{GreedyAnswer, QUAD_NUMBERS};
 use listing::MeshAnswer;
+use std::io;
 use voxels::bounds;
 use words::Job;
 
@@ -38,45 +39,56 @@ fn cube() -> [OrientedBlockFace; 6] {
 
 // Prints the quads that were meshed, so many numbers each, and how many each face has. Where the block
 // was refused it says so instead, and answers false.
-fn listed(mesh: MeshAnswer, out: &[u32], numbers: usize) -> bool {
-    if say::refused(mesh.refusal, mesh.place) {
-        return false;
+fn listed(
+    rt: &impl Print,
+    err: &impl Print,
+    mesh: MeshAnswer,
+    out: &[u32],
+    numbers: usize,
+) -> io::Result<bool> {
+    if say::refused(err, mesh.refusal, mesh.place)? {
+        return Ok(false);
     }
     let counts = mesh.counts;
-    show::groups(out, numbers, counts);
-    show::counts(counts);
-    true
+    show::groups(rt, out, numbers, counts)?;
+    show::counts(rt, counts)?;
+    Ok(true)
 }
 
 // Prints the greedy quads that were meshed as OBJ text, of at most 3,000,000 bytes. Where the block or
 // the text was refused it says so instead, and so it does where the text could not be written.
-fn write_obj(mesh: MeshAnswer, quads: &[u32]) {
-    if say::refused(mesh.refusal, mesh.place) {
-        return;
+fn write_obj(rt: &impl Print, err: &impl Print, mesh: MeshAnswer, quads: &[u32]) -> io::Result<()> {
+    if say::refused(err, mesh.refusal, mesh.place)? {
+        return Ok(());
     }
     let mut room = space::text();
     let out: &mut [u8] = &mut room;
     let counts = mesh.counts;
     let answer = obj::write_obj(cube(), counts, quads, out);
-    if say::refused(answer.refusal, answer.place) {
-        return;
+    if say::refused(err, answer.refusal, answer.place)? {
+        return Ok(());
     }
-    if !show::write_part(out, answer.written as usize) {
-        say::text(b"mesh: the OBJ text could not be written, or not all of it\n");
+    if show::write_part(rt, out, answer.written as usize).is_err() {
+        say::text(
+            err,
+            b"mesh: the OBJ text could not be written, or not all of it\n",
+        )?;
     }
+    Ok(())
 }
 
 // Meshes unit quads: at most 131,072 of them, three numbers each.
-fn mesh_unit(job: Job, voxels: &[u16]) {
+fn mesh_unit(rt: &impl Print, err: &impl Print, job: Job, voxels: &[u16]) -> io::Result<()> {
     let mut room = space::unit_quads();
     let out: &mut [u32] = &mut room;
     let shape = job.shape;
     let min = job.min;
     let max = job.max;
     let answer = simple::visible_block_faces(voxels, shape, min, max, cube(), out);
-    if listed(answer, out, 3) {
-        show::end();
+    if listed(rt, err, answer, out, 3)? {
+        show::end(rt)?;
     }
+    Ok(())
 }
 
 // Greedy meshing. The marks are needed no longer than this.
@@ -90,51 +102,50 @@ fn greedy_quads(job: Job, voxels: &[u16], out: &mut [u32]) -> GreedyAnswer {
 }
 
 // Meshes greedy quads: at most 131,072 of them, five numbers each.
-fn mesh_greedy(job: Job, voxels: &[u16]) {
+fn mesh_greedy(rt: &impl Print, err: &impl Print, job: Job, voxels: &[u16]) -> io::Result<()> {
     let mut room = space::greedy_quads();
     let out: &mut [u32] = &mut room;
     let answer = greedy_quads(job, voxels, out);
     let mesh = answer.mesh;
     if job.obj {
-        write_obj(mesh, out);
-        return;
+        return write_obj(rt, err, mesh, out);
     }
-    if listed(mesh, out, QUAD_NUMBERS) {
-        show::tests(answer.tests);
+    if listed(rt, err, mesh, out, QUAD_NUMBERS)? {
+        show::tests(rt, answer.tests)?;
     }
+    Ok(())
 }
 
 // Reads a block of so many voxels and meshes it.
-fn mesh_block(job: Job, size: u32) {
+fn mesh_block(rt: &(impl Input + Print), err: &impl Print, job: Job, size: u32) -> io::Result<()> {
     let mut room = space::voxels();
     let voxels: &mut [u16] = &mut room;
-    if !block::read(size, voxels) {
-        return;
+    if !block::read(rt, err, size, voxels)? {
+        return Ok(());
     }
     if job.unit {
-        mesh_unit(job, voxels);
-        return;
+        return mesh_unit(rt, err, job, voxels);
     }
-    mesh_greedy(job, voxels);
+    mesh_greedy(rt, err, job, voxels)
 }
 
-fn main() {
-    let job = words::read();
+fn main(rt: HostRuntime) -> io::Result<()> {
+    let err = rt.stderr();
+    let job = words::read(&rt, &err)?;
     if job.wrong {
-        return;
+        return Ok(());
     }
     let shape = job.shape;
     match bounds::check_shape(shape) {
         CheckAnswer::Refused(number, place) => {
-            say::refused(number, place);
-            return;
+            say::refused(&err, number, place)?;
+            return Ok(());
         }
         CheckAnswer::Passed => {}
     }
     let size = block::size(shape.x, shape.y, shape.z);
     if size > block::MOST_VOXELS {
-        say::many_voxels(size as u64);
-        return;
+        return say::many_voxels(&err, size as u64);
     }
-    mesh_block(job, size);
+    mesh_block(&rt, &err, job, size)
 }

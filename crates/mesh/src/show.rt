@@ -2,7 +2,8 @@
 // once.
 ghost use Rattle.std.specs.Prelude.{◌≤◌};
 
-use libc::STDOUT_FILENO;
+use itoa::Buffer;
+use std::io;
 
 // Puts a byte into a line that has so many already. A line has room for the longest: a face, five
 // numbers of at most ten digits, and what stands between.
@@ -33,9 +34,8 @@ fn put_all(line: &mut [u8; 160], used: usize, bytes: &[u8]) -> usize
 fn put_number(line: &mut [u8; 160], used: usize, n: u64) -> usize
     ensures { result ≤ 160 }
 {
-    let mut digits = [0u8; 20];
-    let k = io::decimal(n, &mut digits);
-    put_all(line, used, &digits[..k])
+    let mut digits = Buffer::new();
+    put_all(line, used, digits.format(n).as_bytes())
 }
 
 // A face's name, by its place in the order.
@@ -63,20 +63,21 @@ fn number_at(out: &[u32], i: usize) -> u64 {
     if i < out.len() { wide(out[i]) } else { 0 }
 }
 
-// Writes the first bytes of a line or a text, and answers whether all of them could be written.
-pub fn write_part(line: &[u8], used: usize) -> bool {
+// Writes the first bytes of a line or a text, and answers an error where not all of them could be
+// written.
+pub fn write_part(rt: &impl Print, line: &[u8], used: usize) -> io::Result<()> {
     if used <= line.len() {
-        return io::write_all(STDOUT_FILENO, &line[..used]);
+        return rt.write_all(&line[..used]);
     }
-    false
+    Err(io::Error::from(io::ErrorKind::InvalidInput))
 }
 
-fn write_line(line: &[u8; 160], used: usize) {
-    write_part(line, used);
+fn write_line(rt: &impl Print, line: &[u8; 160], used: usize) -> io::Result<()> {
+    write_part(rt, line, used)
 }
 
 // Prints one quad: its face, and its numbers from index `at` on.
-fn quad(out: &[u32], at: usize, numbers: usize, face: usize) {
+fn quad(rt: &impl Print, out: &[u32], at: usize, numbers: usize, face: usize) -> io::Result<()> {
     let mut line = [0u8; 160];
     let mut used = put_face(&mut line, face);
     let mut k: usize = 0;
@@ -86,50 +87,59 @@ fn quad(out: &[u32], at: usize, numbers: usize, face: usize) {
         k += 1;
     }
     used = put(&mut line, used, b'\n');
-    write_line(&line, used);
+    write_line(rt, &line, used)
 }
 
 // Prints a face's group, which starts at index `at`, and answers where the next one starts.
-fn group(out: &[u32], at: usize, numbers: usize, face: usize, count: u64) -> usize {
+fn group(
+    rt: &impl Print,
+    out: &[u32],
+    at: usize,
+    numbers: usize,
+    face: usize,
+    count: u64,
+) -> io::Result<usize> {
     let mut i = at;
     let mut k: u64 = 0;
     while k < count {
-        quad(out, i, numbers, face);
+        quad(rt, out, i, numbers, face)?;
         i = std::num::wrapping_add_usize(i, numbers);
         k += 1;
     }
-    i
+    Ok(i)
 }
 
 // Prints the quads of all six groups, so many numbers each.
-pub fn groups(out: &[u32], numbers: usize, counts: [u64; 6]) {
+pub fn groups(rt: &impl Print, out: &[u32], numbers: usize, counts: [u64; 6]) -> io::Result<()> {
     let mut at: usize = 0;
     let mut k: usize = 0;
     while k < 6 {
-        at = group(out, at, numbers, k, counts[k]);
+        at = group(rt, out, at, numbers, k, counts[k])?;
         k += 1;
     }
+    Ok(())
 }
 
 // Prints how many quads each face has.
-pub fn counts(counts: [u64; 6]) {
-    io::write_all(STDOUT_FILENO, b"quads");
+pub fn counts(rt: &impl Print, counts: [u64; 6]) -> io::Result<()> {
+    rt.write_all(b"quads")?;
     let mut k: usize = 0;
     while k < 6 {
-        io::write_all(STDOUT_FILENO, b" ");
-        io::print_decimal(STDOUT_FILENO, counts[k]);
+        rt.write_all(b" ")?;
+        rt.print(counts[k])?;
         k += 1;
     }
+    Ok(())
 }
 
 // Ends a line.
-pub fn end() {
-    io::write_all(STDOUT_FILENO, b"\n");
+pub fn end(rt: &impl Print) -> io::Result<()> {
+    rt.write_all(b"\n")
 }
 
 // Prints the tests, and ends the line.
-pub fn tests(tests: u64) {
-    io::write_all(STDOUT_FILENO, b" tests ");
-    io::print_decimal(STDOUT_FILENO, tests);
-    end();
+pub fn tests(rt: &impl Print, tests: u64) -> io::Result<()> {
+    rt.write_all(b" tests ")?;
+    rt.print(tests)?;
+    end(rt)
 }

@@ -3,6 +3,9 @@ ghost use Rattle.std.specs.Prelude.{◌≤◌};
 
 use crate::say;
 use geometry::vector::UVec3;
+use std::env::FillError;
+use std::io;
+use std::rt::Env;
 
 // What is asked for.
 #[derive(Clone, Copy)]
@@ -77,13 +80,13 @@ fn number(text: &[u8]) -> u64 {
 }
 
 fn kind(text: &[u8]) -> Word {
-    if check::same(text, b"--unit") {
+    if text == b"--unit".as_slice() {
         return Word::Unit;
     }
-    if check::same(text, b"--obj") {
+    if text == b"--obj".as_slice() {
         return Word::Obj;
     }
-    if check::same(text, b"--box") {
+    if text == b"--box".as_slice() {
         return Word::Box;
     }
     let n = number(text);
@@ -94,16 +97,23 @@ fn kind(text: &[u8]) -> Word {
 }
 
 // Says what is wrong with a word.
-fn wrong(mut w: Words, i: usize, text: &[u8], what: &[u8]) -> Words {
-    say::sentence(b"mesh: word ", i as u64, b", '");
-    say::text(text);
-    say::text(what);
+fn wrong(err: &impl Print, mut w: Words, i: usize, text: &[u8], what: &[u8]) -> io::Result<Words> {
+    say::sentence(err, b"mesh: word ", i as u64, b", '")?;
+    say::text(err, text)?;
+    say::text(err, what)?;
     w.wrong = true;
-    w
+    Ok(w)
 }
 
 // Takes a number: of the box where one is open, and else of the shape.
-fn take_number(i: usize, mut w: Words, n: u32, text: &[u8], numbers: &mut [u32; 9]) -> Words {
+fn take_number(
+    err: &impl Print,
+    i: usize,
+    mut w: Words,
+    n: u32,
+    text: &[u8],
+    numbers: &mut [u32; 9],
+) -> io::Result<Words> {
     let corners = w.corners;
     let shape = w.shape;
     if w.boxed {
@@ -111,15 +121,16 @@ fn take_number(i: usize, mut w: Words, n: u32, text: &[u8], numbers: &mut [u32; 
             let at = corners + 3;
             numbers[at] = n;
             w.corners = corners + 1;
-            return w;
+            return Ok(w);
         }
     }
     if shape < 3 {
         numbers[shape] = n;
         w.shape = shape + 1;
-        return w;
+        return Ok(w);
     }
     wrong(
+        err,
         w,
         i,
         text,
@@ -128,44 +139,45 @@ fn take_number(i: usize, mut w: Words, n: u32, text: &[u8], numbers: &mut [u32; 
 }
 
 // Takes --box. A second one is wrong.
-fn take_box(i: usize, mut w: Words, text: &[u8]) -> Words {
+fn take_box(err: &impl Print, i: usize, mut w: Words, text: &[u8]) -> io::Result<Words> {
     if w.boxed {
-        return wrong(w, i, text, b"', stands there a second time\n");
+        return wrong(err, w, i, text, b"', stands there a second time\n");
     }
     w.boxed = true;
-    w
+    Ok(w)
 }
 
 // Takes the i-th word.
-fn take(i: usize, mut w: Words, numbers: &mut [u32; 9]) -> Words {
-    let mut text = [0u8; 64];
-    let n = os::arg(i, &mut text);
-    if os::errno() != 0 {
-        return wrong(w, i, b"..", b"', is too long for any word of mesh\n");
-    }
-    match kind(&text[..n]) {
+fn take(
+    err: &impl Print,
+    i: usize,
+    mut w: Words,
+    text: &[u8],
+    numbers: &mut [u32; 9],
+) -> io::Result<Words> {
+    match kind(text) {
         Word::Unit => {
             w.unit = true;
-            w
+            Ok(w)
         }
         Word::Obj => {
             w.obj = true;
-            w
+            Ok(w)
         }
-        Word::Box => take_box(i, w, &text[..n]),
-        Word::Number(value) => take_number(i, w, value, &text[..n], numbers),
+        Word::Box => take_box(err, i, w, text),
+        Word::Number(value) => take_number(err, i, w, value, text, numbers),
         Word::Other => wrong(
+            err,
             w,
             i,
-            &text[..n],
+            text,
             b"', is neither --unit, --obj, --box nor a number from 0 to 4294967295\n",
         ),
     }
 }
 
 // Takes all words.
-fn take_all(numbers: &mut [u32; 9]) -> Words {
-    let count = os::arg_count();
+fn take_all(rt: &impl Env, err: &impl Print, numbers: &mut [u32; 9]) -> io::Result<Words> {
     let mut w = Words {
         wrong: false,
         unit: false,
@@ -174,52 +186,62 @@ fn take_all(numbers: &mut [u32; 9]) -> Words {
         boxed: false,
         corners: 0,
     };
-    let mut i: usize = 1;
-    while i < count {
+    for i in 1..usize::MAX {
         if w.wrong {
-            return w;
+            return Ok(w);
         }
-        w = take(i, w, numbers);
-        i += 1;
+        let mut text = [0u8; 64];
+        match rt.arg(i, &mut text) {
+            Ok(n) => w = take(err, i, w, &text[..n], numbers)?,
+            Err(FillError::TooLong) => {
+                w = wrong(err, w, i, b"..", b"', is too long for any word of mesh\n")?;
+            }
+            Err(FillError::NotPresent) => return Ok(w),
+        }
     }
-    w
+    Ok(w)
 }
 
 // Whether there are too few numbers, which is said.
-fn too_few(w: Words) -> bool {
+fn too_few(err: &impl Print, w: Words) -> io::Result<bool> {
     if w.boxed {
         if w.corners < 6 {
             say::sentence(
+                err,
                 b"mesh: --box takes six numbers, and ",
                 w.corners as u64,
                 b" came\n",
-            );
-            return true;
+            )?;
+            return Ok(true);
         }
     }
     if w.shape < 3 {
         say::sentence(
+            err,
             b"mesh: the shape is three numbers, X Y Z, and ",
             w.shape as u64,
             b" came\n",
-        );
-        return true;
+        )?;
+        return Ok(true);
     }
-    false
+    Ok(false)
 }
 
 // Whether the words are wrong, by themselves or together, which is said.
-fn unfit(w: Words) -> bool {
+fn unfit(err: &impl Print, w: Words) -> io::Result<bool> {
     if w.wrong {
-        return true;
+        return Ok(true);
     }
     if w.unit {
         if w.obj {
-            say::text(b"mesh: --obj writes greedy quads, and does not go with --unit\n");
-            return true;
+            say::text(
+                err,
+                b"mesh: --obj writes greedy quads, and does not go with --unit\n",
+            )?;
+            return Ok(true);
         }
     }
-    too_few(w)
+    too_few(err, w)
 }
 
 // The last voxel of an axis.
@@ -228,9 +250,9 @@ fn last(axis: u32) -> u32 {
 }
 
 // What the words of the command line ask for.
-pub fn read() -> Job {
+pub fn read(rt: &impl Env, err: &impl Print) -> io::Result<Job> {
     let mut numbers = [0u32; 9];
-    let w = take_all(&mut numbers);
+    let w = take_all(rt, err, &mut numbers)?;
     let shape = UVec3 {
         x: numbers[0],
         y: numbers[1],
@@ -243,7 +265,7 @@ pub fn read() -> Job {
         z: last(numbers[2]),
     };
     let mut job = Job {
-        wrong: unfit(w),
+        wrong: unfit(err, w)?,
         unit: w.unit,
         obj: w.obj,
         shape: shape,
@@ -264,5 +286,5 @@ pub fn read() -> Job {
         job.min = min;
         job.max = max;
     }
-    job
+    Ok(job)
 }

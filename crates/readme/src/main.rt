@@ -5,7 +5,7 @@ use geometry::axis::SignedAxis;
 use geometry::face::{Corner, OrientedBlockFace, PositionAnswer};
 use geometry::quad::{UnorientedQuad, UnorientedUnitQuad};
 use geometry::vector::UVec3;
-use libc::STDOUT_FILENO;
+use std::io;
 
 // How many quads the top of a block of 4 by 4 by 3 takes, or 0 where it is refused. `out` gets the quads, five numbers
 // each: minimum x, y, z, width, height.
@@ -31,58 +31,56 @@ pub fn far_x(quad: UnorientedQuad, voxel_size: f32) -> f32 {
 }
 
 // Prints what `roof` gives.
-fn print_roof(quads: u64) {
-    io::write_all(STDOUT_FILENO, b"roof: ");
-    io::print_decimal(STDOUT_FILENO, quads);
-    io::write_all(STDOUT_FILENO, b"\n");
+fn print_roof(rt: &impl Print, quads: u64) -> io::Result<()> {
+    println!(rt; "roof: {quads}")
 }
 
 // Prints what `far_x` gives, where it is a number of halves below three.
-fn print_far_x(x: f32) {
+fn print_far_x(rt: &impl Print, x: f32) -> io::Result<()> {
     if x == 0.0 {
-        io::write_all(STDOUT_FILENO, b"far_x: 0\n");
+        println!(rt; "far_x: 0")
     } else if x == 0.5 {
-        io::write_all(STDOUT_FILENO, b"far_x: 0.5\n");
+        println!(rt; "far_x: 0.5")
     } else if x == 2.5 {
-        io::write_all(STDOUT_FILENO, b"far_x: 2.5\n");
+        println!(rt; "far_x: 2.5")
     } else {
-        io::write_all(STDOUT_FILENO, b"far_x: another number\n");
+        println!(rt; "far_x: another number")
     }
 }
 
 // Two opaque voxels side by side have one roof. With room for five quads the call is refused.
-fn roofs() {
+fn roofs(rt: &impl Print) -> io::Result<()> {
     let mut voxels = [0u16; 48];
     voxels[21] = 32775;
     voxels[22] = 32775;
     let mut visited = [255u8; 48];
     let mut out = [0u32; 30];
-    print_roof(roof(&voxels, &mut visited, &mut out));
+    print_roof(rt, roof(&voxels, &mut visited, &mut out))?;
     let mut small = [0u32; 29];
-    print_roof(roof(&voxels, &mut visited, &mut small));
+    print_roof(rt, roof(&voxels, &mut visited, &mut small))
 }
 
 // E10's quad at the size of E15, the same without a width, and a unit quad.
-fn corners() {
+fn corners(rt: &impl Print) -> io::Result<()> {
     let minimum = UVec3 { x: 1, y: 2, z: 3 };
     let quad = UnorientedQuad {
         minimum,
         width: 4,
         height: 5,
     };
-    print_far_x(far_x(quad, 0.25));
+    print_far_x(rt, far_x(quad, 0.25))?;
     let thin = UnorientedQuad {
         minimum,
         width: 0,
         height: 5,
     };
-    print_far_x(far_x(thin, 0.25));
+    print_far_x(rt, far_x(thin, 0.25))?;
     let voxel = UVec3 { x: 9, y: 9, z: 9 };
     let unit = UnorientedUnitQuad { minimum: voxel };
-    print_far_x(far_x(UnorientedQuad::from(unit), 0.25));
+    print_far_x(rt, far_x(UnorientedQuad::from(unit), 0.25))
 }
 
-fn main() {
-    roofs();
-    corners();
+fn main(rt: HostRuntime) -> io::Result<()> {
+    roofs(&rt)?;
+    corners(&rt)
 }

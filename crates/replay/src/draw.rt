@@ -6,6 +6,7 @@ use geometry::axis::{Axis, SignedAxis, SignedAxisAnswer};
 use geometry::face::OrientedBlockFace;
 use geometry::vector::IVec3;
 use spunmarrow::draw;
+use std::io;
 
 // What came of a call.
 #[derive(Clone, Copy)]
@@ -228,39 +229,45 @@ fn fault_of(numbers: &[u32; 512], at: usize, count: usize) -> u32 {
 
 // Compares the words of an output.
 fn compare_words(
+    rt: &impl Print,
     tally: &mut [u64; 44],
     numbers: &[u32; 512],
     first: usize,
     written: usize,
     words: &[u32; 12],
-) {
-    tally::compare_output(tally, numbers, first, written, words);
+) -> io::Result<()> {
+    tally::compare_output(rt, tally, numbers, first, written, words)
 }
 
 // Compares what came of a call.
-fn compare(tally: &mut [u64; 44], numbers: &[u32; 512], c: Outcome) {
+fn compare(
+    rt: &impl Print,
+    tally: &mut [u64; 44],
+    numbers: &[u32; 512],
+    c: Outcome,
+) -> io::Result<()> {
     let listed = value::at(numbers, c.at);
     tally::compare(
+        rt,
         tally,
         numbers[1],
         b"answer (refusal), number ",
         0,
         value::wide(listed),
         value::wide(c.refusal),
-    );
+    )?;
     let words = c.words;
     let first = std::num::wrapping_add_usize(c.at, 1);
-    compare_words(tally, numbers, first, written(listed, c.count), &words);
+    compare_words(rt, tally, numbers, first, written(listed, c.count), &words)
 }
 
 // Replays a call of the drawing code.
-pub fn replay(tally: &mut [u64; 44], numbers: &[u32; 512]) {
+pub fn replay(rt: &impl Print, tally: &mut [u64; 44], numbers: &[u32; 512]) -> io::Result<()> {
     let c = call(numbers);
     let wrong = fault_of(numbers, c.at, c.count);
     if wrong != 0 {
-        tally::malformed(tally, wrong);
-        return;
+        return tally::malformed(rt, tally, wrong);
     }
     tally::replayed(tally, numbers[1], numbers[2]);
-    compare(tally, numbers, c);
+    compare(rt, tally, numbers, c)
 }

@@ -18,7 +18,9 @@ mod tally;
 mod text;
 mod value;
 
-use libc::STDIN_FILENO;
+ghost use Rattle.std.specs.Prelude.{◌≤◌, length, IfOk};
+
+use std::io::{self, Read};
 use text::Line;
 
 // Where the reading stands.
@@ -48,27 +50,34 @@ fn fault_of(numbers: &[u32; 512], count: usize) -> u32 {
 }
 
 // Replays a record that has so many numbers, its length among them.
-fn record(tally: &mut [u64; 44], numbers: &[u32; 512], count: usize) {
+fn record(
+    rt: &impl Print,
+    tally: &mut [u64; 44],
+    numbers: &[u32; 512],
+    count: usize,
+) -> io::Result<()> {
     let wrong = fault_of(numbers, count);
     if wrong != 0 {
-        tally::malformed(tally, wrong);
-        return;
+        return tally::malformed(rt, tally, wrong);
     }
     if numbers[1] < 3 {
-        mesh::replay(tally, numbers);
-        return;
+        return mesh::replay(rt, tally, numbers);
     }
-    draw::replay(tally, numbers);
+    draw::replay(rt, tally, numbers)
 }
 
 // Replays what a line has, or says what is wrong with it.
-fn replay_line(tally: &mut [u64; 44], numbers: &[u32; 512], read: Line) {
+fn replay_line(
+    rt: &impl Print,
+    tally: &mut [u64; 44],
+    numbers: &[u32; 512],
+    read: Line,
+) -> io::Result<()> {
     tally::next_record(tally);
     if read.wrong != 0 {
-        tally::malformed(tally, read.wrong);
-        return;
+        return tally::malformed(rt, tally, read.wrong);
     }
-    record(tally, numbers, read.count);
+    record(rt, tally, numbers, read.count)
 }
 
 // Whether a line ends the list.
@@ -83,59 +92,74 @@ fn is_end(numbers: &[u32; 512], read: Line) -> bool {
 }
 
 // Reads the line that starts at a place, and replays it.
-fn line(tally: &mut [u64; 44], list: &[u8], at: usize) -> Place {
+fn line(rt: &impl Print, tally: &mut [u64; 44], list: &[u8], at: usize) -> io::Result<Place> {
     let next = text::next_line(list, at);
     if text::byte(list, at) != b'#' {
         let mut numbers = [0u32; 512];
         let read = text::read_line(list, at, &mut numbers);
         if is_end(&numbers, read) {
-            return Place {
+            return Ok(Place {
                 at: next,
                 done: true,
-            };
+            });
         }
-        replay_line(tally, &numbers, read);
+        replay_line(rt, tally, &numbers, read)?;
     }
-    Place {
+    Ok(Place {
         at: next,
         done: false,
-    }
+    })
 }
 
 // Reads all lines, and answers the fault of the list, or 0.
-fn lines(tally: &mut [u64; 44], list: &[u8]) -> u32 {
+fn lines(rt: &impl Print, tally: &mut [u64; 44], list: &[u8]) -> io::Result<u32> {
     let mut at: usize = 0;
     let mut k: usize = 0;
     while k < list.len() {
-        let place = line(tally, list, at);
+        let place = line(rt, tally, list, at)?;
         at = place.at;
         if place.done {
-            return if at < list.len() { fault::GOES_ON } else { 0 };
+            return Ok(if at < list.len() { fault::GOES_ON } else { 0 });
         }
         if at >= list.len() {
-            return fault::NO_END;
+            return Ok(fault::NO_END);
         }
         k += 1;
     }
-    fault::NO_END
+    Ok(fault::NO_END)
+}
+
+// Reads until the text is full or the input ends, and answers how many bytes it put at its start.
+fn read_full(input: &mut impl Read, text: &mut [u8]) -> io::Result<usize>
+    ensures { IfOk result (λ n. n ≤ length text.new) }
+{
+    let mut done: usize = 0;
+    while done < text.len() {
+        let n = input.read(&mut text[done..])?;
+        if n == 0 {
+            return Ok(done);
+        }
+        done += n;
+    }
+    Ok(done)
 }
 
 // Reads a list from standard input, replays it, and answers its fault, or 0.
-fn replay(tally: &mut [u64; 44], text: &mut [u8]) -> u32 {
-    let got = io::read_full(STDIN_FILENO, text);
+fn replay(rt: &(impl Input + Print), tally: &mut [u64; 44], text: &mut [u8]) -> io::Result<u32> {
+    let got = read_full(&mut rt.reader(), text)?;
     if got == text.len() {
-        return fault::LONG_LIST;
+        return Ok(fault::LONG_LIST);
     }
-    lines(tally, &text[..got])
+    lines(rt, tally, &text[..got])
 }
 
-fn main() {
+fn main(rt: HostRuntime) -> io::Result<()> {
     let mut counts = [0u64; 44];
     let mut room = space::text();
     let text: &mut [u8] = &mut room;
-    let wrong = replay(&mut counts, text);
+    let wrong = replay(&rt, &mut counts, text)?;
     if wrong != 0 {
-        tally::wrong_list(&mut counts, wrong);
+        tally::wrong_list(&rt, &mut counts, wrong)?;
     }
-    tally::end(&counts);
+    tally::end(&rt, &counts)
 }

@@ -3,6 +3,7 @@
 // number of runs at 25, and two numbers for each run; then what `Rest` has.
 use crate::{fault, space, tally, value};
 use spunmarrow::mesh;
+use std::io;
 
 // The most voxels, visited bytes and numbers of output that a call of a list has.
 const MOST: usize = 4096;
@@ -117,20 +118,28 @@ fn runs(numbers: &[u32; 512], voxels: &mut [u16]) -> usize {
 }
 
 // Compares the nine numbers of an answer.
-fn compare_answer(tally: &mut [u64; 44], numbers: &[u32; 512], from: usize, answer: &[u64; 9]) {
+fn compare_answer(
+    rt: &impl Print,
+    tally: &mut [u64; 44],
+    numbers: &[u32; 512],
+    from: usize,
+    answer: &[u64; 9],
+) -> io::Result<()> {
     let mut k: usize = 0;
     while k < 9 {
         let expected = value::at(numbers, add(from, k));
         tally::compare(
+            rt,
             tally,
             numbers[1],
             b"answer (refusal, place, counts, tests), number ",
             k,
             value::wide(expected),
             answer[k],
-        );
+        )?;
         k += 1;
     }
+    Ok(())
 }
 
 fn wide_byte(byte: u8) -> u64 {
@@ -138,20 +147,28 @@ fn wide_byte(byte: u8) -> u64 {
 }
 
 // Compares all visited bytes, and what lies after them.
-fn compare_visited(tally: &mut [u64; 44], kind: u32, cleared: usize, visited: &[u8]) {
+fn compare_visited(
+    rt: &impl Print,
+    tally: &mut [u64; 44],
+    kind: u32,
+    cleared: usize,
+    visited: &[u8],
+) -> io::Result<()> {
     let mut i: usize = 0;
     while i < visited.len() {
         let expected = if i < cleared { 0 } else { 165 };
         tally::compare(
+            rt,
             tally,
             kind,
             b"visited byte ",
             i,
             expected,
             wide_byte(visited[i]),
-        );
+        )?;
         i += 1;
     }
+    Ok(())
 }
 
 // Three numbers of a record.
@@ -257,7 +274,13 @@ fn lend_unit(
 }
 
 // Meshes and compares. An answer that no call writes differs from every list's.
-fn meshed(tally: &mut [u64; 44], numbers: &[u32; 512], r: Rest, voxels: &[u16]) {
+fn meshed(
+    rt: &impl Print,
+    tally: &mut [u64; 44],
+    numbers: &[u32; 512],
+    r: Rest,
+    voxels: &[u16],
+) -> io::Result<()> {
     let mut marks = space::visited();
     let visited: &mut [u8] = &mut marks;
     let mut room = space::output();
@@ -268,25 +291,23 @@ fn meshed(tally: &mut [u64; 44], numbers: &[u32; 512], r: Rest, voxels: &[u16]) 
     } else {
         lend_unit(numbers, r, voxels, out, &mut answer);
     }
-    compare_answer(tally, numbers, r.answer, &answer);
-    tally::compare_output(tally, numbers, r.first, r.written, out);
-    compare_visited(tally, numbers[1], r.cleared, visited);
+    compare_answer(rt, tally, numbers, r.answer, &answer)?;
+    tally::compare_output(rt, tally, numbers, r.first, r.written, out)?;
+    compare_visited(rt, tally, numbers[1], r.cleared, visited)
 }
 
 // Replays a call of a mesher.
-pub fn replay(tally: &mut [u64; 44], numbers: &[u32; 512]) {
+pub fn replay(rt: &impl Print, tally: &mut [u64; 44], numbers: &[u32; 512]) -> io::Result<()> {
     let r = rest_of(numbers);
     let wrong = fault_of(numbers, r);
     if wrong != 0 {
-        tally::malformed(tally, wrong);
-        return;
+        return tally::malformed(rt, tally, wrong);
     }
     let mut room = space::voxels();
     let voxels: &mut [u16] = &mut room;
     if runs(numbers, voxels) != r.voxels {
-        tally::malformed(tally, fault::RUNS);
-        return;
+        return tally::malformed(rt, tally, fault::RUNS);
     }
     tally::replayed(tally, numbers[1], numbers[2]);
-    meshed(tally, numbers, r, voxels);
+    meshed(rt, tally, numbers, r, voxels)
 }

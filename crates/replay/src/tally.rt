@@ -3,43 +3,42 @@
 // itself: its records, and those that are malformed.
 use crate::fault::text;
 use crate::{fault, value};
-use libc::STDOUT_FILENO;
+use std::io;
 
 // What every word of an output is before a call.
 pub const BEFORE: u32 = 2779096485;
 
 // A number and what stands after it.
-fn put(n: u64, after: &[u8]) {
-    io::print_decimal(STDOUT_FILENO, n);
-    text(after);
+fn put(rt: &impl Print, n: u64, after: &[u8]) -> io::Result<()> {
+    rt.print(n)?;
+    text(rt, after)
 }
 
 // The name of a kind of call.
-fn name(kind: u32) {
+fn name(rt: &impl Print, kind: u32) -> io::Result<()> {
     if kind < 6 {
-        first_name(kind);
-        return;
+        return first_name(rt, kind);
     }
-    second_name(kind);
+    second_name(rt, kind)
 }
 
-fn first_name(kind: u32) {
+fn first_name(rt: &impl Print, kind: u32) -> io::Result<()> {
     match kind {
-        1 => text(b"greedy_quads"),
-        2 => text(b"visible_block_faces"),
-        3 => text(b"quad_mesh_position"),
-        4 => text(b"quad_corners"),
-        _ => text(b"quad_mesh_normals"),
+        1 => text(rt, b"greedy_quads"),
+        2 => text(rt, b"visible_block_faces"),
+        3 => text(rt, b"quad_mesh_position"),
+        4 => text(rt, b"quad_corners"),
+        _ => text(rt, b"quad_mesh_normals"),
     }
 }
 
-fn second_name(kind: u32) {
+fn second_name(rt: &impl Print, kind: u32) -> io::Result<()> {
     match kind {
-        6 => text(b"quad_mesh_indices"),
-        7 => text(b"tex_coords"),
-        8 => text(b"SignedAxis::new"),
-        9 => text(b"SignedAxis::from_vector"),
-        _ => text(b"canonical"),
+        6 => text(rt, b"quad_mesh_indices"),
+        7 => text(rt, b"tex_coords"),
+        8 => text(rt, b"SignedAxis::new"),
+        9 => text(rt, b"SignedAxis::from_vector"),
+        _ => text(rt, b"canonical"),
     }
 }
 
@@ -70,87 +69,101 @@ pub fn next_record(tally: &mut [u64; 44]) {
 }
 
 // Says what is wrong with the list, which is a difference.
-pub fn wrong_list(tally: &mut [u64; 44], what: u32) {
+pub fn wrong_list(rt: &impl Print, tally: &mut [u64; 44], what: u32) -> io::Result<()> {
     add(tally, 0, 3);
-    fault::sentence(what);
+    fault::sentence(rt, what)
 }
 
 // The same, of the record that was read last.
-pub fn malformed(tally: &mut [u64; 44], what: u32) {
-    text(b"record ");
-    put(count(tally, 0, 0), b" of the list ");
-    wrong_list(tally, what);
+pub fn malformed(rt: &impl Print, tally: &mut [u64; 44], what: u32) -> io::Result<()> {
+    text(rt, b"record ")?;
+    put(rt, count(tally, 0, 0), b" of the list ")?;
+    wrong_list(rt, tally, what)
 }
 
 // Says which number of a call differs, and counts it.
-fn differs(tally: &mut [u64; 44], kind: u32, what: &[u8], index: usize, expected: u64, came: u64) {
-    add(tally, kind, 3);
-    text(b"call ");
-    put(count(tally, 0, 0), b", ");
-    name(kind);
-    text(b": ");
-    text(what);
-    put(index as u64, b": expected ");
-    put(expected, b", came ");
-    put(came, b"\n");
-}
-
-// Compares one number of a call.
-pub fn compare(
+fn differs(
+    rt: &impl Print,
     tally: &mut [u64; 44],
     kind: u32,
     what: &[u8],
     index: usize,
     expected: u64,
     came: u64,
-) {
+) -> io::Result<()> {
+    add(tally, kind, 3);
+    text(rt, b"call ")?;
+    put(rt, count(tally, 0, 0), b", ")?;
+    name(rt, kind)?;
+    text(rt, b": ")?;
+    text(rt, what)?;
+    put(rt, index as u64, b": expected ")?;
+    put(rt, expected, b", came ")?;
+    put(rt, came, b"\n")
+}
+
+// Compares one number of a call.
+pub fn compare(
+    rt: &impl Print,
+    tally: &mut [u64; 44],
+    kind: u32,
+    what: &[u8],
+    index: usize,
+    expected: u64,
+    came: u64,
+) -> io::Result<()> {
     if expected != came {
-        differs(tally, kind, what, index, expected, came);
+        differs(rt, tally, kind, what, index, expected, came)?;
     }
+    Ok(())
 }
 
 // Compares a whole output: its first numbers with those of a record from index `first` on, and the
 // others with what was there before.
 pub fn compare_output(
+    rt: &impl Print,
     tally: &mut [u64; 44],
     numbers: &[u32; 512],
     first: usize,
     written: usize,
     out: &[u32],
-) {
+) -> io::Result<()> {
     let kind = value::at(numbers, 1);
     let mut i: usize = 0;
     while i < out.len() {
         let expected = value::output_at(numbers, first, written, i);
         compare(
+            rt,
             tally,
             kind,
             b"output number ",
             i,
             expected,
             value::wide(out[i]),
-        );
+        )?;
         i += 1;
     }
+    Ok(())
 }
 
 // Prints the line of a kind.
-fn kind_line(tally: &[u64; 44], kind: u32) {
-    name(kind);
-    text(b": ");
-    put(count(tally, kind, 0), b" calls; of their answers ");
-    put(count(tally, kind, 1), b" are the Rust's and ");
-    put(count(tally, kind, 2), b" the second reading's; ");
-    put(count(tally, kind, 3), b" differences\n");
+fn kind_line(rt: &impl Print, tally: &[u64; 44], kind: u32) -> io::Result<()> {
+    name(rt, kind)?;
+    text(rt, b": ")?;
+    put(rt, count(tally, kind, 0), b" calls; of their answers ")?;
+    put(rt, count(tally, kind, 1), b" are the Rust's and ")?;
+    put(rt, count(tally, kind, 2), b" the second reading's; ")?;
+    put(rt, count(tally, kind, 3), b" differences\n")
 }
 
 // Prints a line for each kind.
-fn kinds(tally: &[u64; 44]) {
+fn kinds(rt: &impl Print, tally: &[u64; 44]) -> io::Result<()> {
     let mut kind: u32 = 1;
     while kind < 11 {
-        kind_line(tally, kind);
+        kind_line(rt, tally, kind)?;
         kind += 1;
     }
+    Ok(())
 }
 
 // The sum of a column over all kinds from `first` on.
@@ -165,8 +178,8 @@ fn sum(tally: &[u64; 44], first: u32, column: u32) -> u64 {
 }
 
 // Prints what was counted.
-pub fn end(tally: &[u64; 44]) {
-    kinds(tally);
-    put(sum(tally, 1, 0), b" calls, ");
-    put(sum(tally, 0, 3), b" differences\n");
+pub fn end(rt: &impl Print, tally: &[u64; 44]) -> io::Result<()> {
+    kinds(rt, tally)?;
+    put(rt, sum(tally, 1, 0), b" calls, ")?;
+    put(rt, sum(tally, 0, 3), b" differences\n")
 }

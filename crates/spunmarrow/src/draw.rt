@@ -11,8 +11,7 @@ use geometry::face::{
 };
 
 // The position of one corner of a quad: three numbers. Refuses by 17, then 6, then 12, then 14.
-#[unsafe(no_mangle)]
-pub extern "C" fn spunmarrow_corner(
+pub fn spunmarrow_corner(
     sign: i32,
     permutation: u32,
     quad: &[u32; 5],
@@ -40,13 +39,7 @@ pub extern "C" fn spunmarrow_corner(
 }
 
 // The four corners of a quad: twelve numbers. Refuses by 17, then 6, then 12.
-#[unsafe(no_mangle)]
-pub extern "C" fn spunmarrow_corners(
-    sign: i32,
-    permutation: u32,
-    quad: &[u32; 5],
-    out: &mut [u32; 12],
-) -> u32
+pub fn spunmarrow_corners(sign: i32, permutation: u32, quad: &[u32; 5], out: &mut [u32; 12]) -> u32
     ensures { told result out.new ≡ corners_call sign permutation quad.now out.old }
 {
     match numbers::face(sign, permutation) {
@@ -66,8 +59,7 @@ pub extern "C" fn spunmarrow_corners(
 }
 
 // The normal of a face: three numbers. Refuses by 17, then 6.
-#[unsafe(no_mangle)]
-pub extern "C" fn spunmarrow_normal(sign: i32, permutation: u32, out: &mut [f32; 3]) -> u32
+pub fn spunmarrow_normal(sign: i32, permutation: u32, out: &mut [f32; 3]) -> u32
     ensures { told result out.new ≡ normal_call sign permutation out.old }
 {
     match numbers::face(sign, permutation) {
@@ -84,13 +76,7 @@ pub extern "C" fn spunmarrow_normal(sign: i32, permutation: u32, out: &mut [f32;
 }
 
 // The vertex numbers of a quad's two triangles: six numbers. Refuses by 17, then 6, then 13.
-#[unsafe(no_mangle)]
-pub extern "C" fn spunmarrow_indices(
-    sign: i32,
-    permutation: u32,
-    start: u32,
-    out: &mut [u32; 6],
-) -> u32
+pub fn spunmarrow_indices(sign: i32, permutation: u32, start: u32, out: &mut [u32; 6]) -> u32
     ensures { told result out.new ≡ indices_call sign permutation start out.old }
 {
     match numbers::face(sign, permutation) {
@@ -112,8 +98,7 @@ pub extern "C" fn spunmarrow_indices(
 }
 
 // The texture pairs of a quad's four corners: eight numbers. Refuses by 17, then 6, then 12.
-#[unsafe(no_mangle)]
-pub extern "C" fn spunmarrow_tex_coords(
+pub fn spunmarrow_tex_coords(
     sign: i32,
     permutation: u32,
     u_flip_axis: u32,

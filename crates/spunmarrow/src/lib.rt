@@ -1,5 +1,5 @@
-// The C interface: thin exported functions over the crates below, and nothing else. The header is
-// include/spunmarrow.h.
+// The calls of the C interface: thin functions over the crates below, and nothing else. Crate
+// spunmarrow_c exports each to C. The header is include/spunmarrow.h.
 //
 // An array of fixed length is a pointer in C, and a slice is a pointer and a length. Any numbers may
 // be handed in: a permutation, corner or axis number outside its range is refused by 17, before

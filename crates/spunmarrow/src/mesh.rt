@@ -30,8 +30,7 @@ fn refuse(answer: &mut [u64; 9], number: u32, place: u64)
 }
 
 // A unit quad for every visible face inside a box. Refuses by 17, then as `visible_block_faces` does.
-#[unsafe(no_mangle)]
-pub extern "C" fn spunmarrow_visible_block_faces(
+pub fn spunmarrow_visible_block_faces(
     shape: &[u32; 3],
     min: &[u32; 3],
     max: &[u32; 3],
@@ -62,8 +61,7 @@ pub extern "C" fn spunmarrow_visible_block_faces(
 
 // The visible faces inside a box as rectangles, each of one merge value. Refuses by 17, then as
 // `greedy_quads` does.
-#[unsafe(no_mangle)]
-pub extern "C" fn spunmarrow_greedy_quads(
+pub fn spunmarrow_greedy_quads(
     shape: &[u32; 3],
     min: &[u32; 3],
     max: &[u32; 3],

@@ -18,8 +18,7 @@ fn write(answer: &mut [u64; 3], done: WriteAnswer)
 }
 
 // A mesh as OBJ text. Refuses by 17, then as `write_obj` does.
-#[unsafe(no_mangle)]
-pub extern "C" fn spunmarrow_write_obj(
+pub fn spunmarrow_write_obj(
     faces: &[i32; 12],
     counts: &[u64; 6],
     quads: &[u32],
@@ -41,8 +40,7 @@ pub extern "C" fn spunmarrow_write_obj(
 
 // A number's decimal digits at the start of a scratch: how many there are, or 0 where they do not fit,
 // and then the scratch is as it was.
-#[unsafe(no_mangle)]
-pub extern "C" fn spunmarrow_decimal(n: u32, scratch: &mut [u8]) -> usize
+pub fn spunmarrow_decimal(n: u32, scratch: &mut [u8]) -> usize
     ensures { spelt result scratch.new ≡ spelling n scratch.old }
 {
     digits::spell(n, scratch)
