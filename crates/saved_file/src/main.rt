@@ -2,7 +2,7 @@
 //
 //     saved_file info|obj < FILE
 //
-// FILE has the bytes of a saved mesh, as `mesh --save` writes them. `info` prints the file's form and its
+// FILE has the bytes of a saved mesh, as crate saved writes them. `info` prints the file's form and its
 // bytes, and a line for each face: its sign and its permutation, the number of its quads, the sum of
 // their areas, and the lowest and the highest x, y and z of their corners; the last line has the same
 // of all faces. `obj` prints the mesh as OBJ text. Where the file is refused it is said on standard
