@@ -1,0 +1,111 @@
+// Face bytes: the permutation's number, and 8 more where the sign is -1.
+ghost use Rattle.std.specs.Prelude.{◌≡◌, ◌∷◌, [], map, ◌≤◌, length, get_or, take, drop};
+ghost use Rattle.geometry.specs.declared.axis.AxisPermutation.TheVariants.{Xyz};
+ghost use Rattle.geometry.specs.Axes.{permutations};
+ghost use Rattle.geometry.specs.Refusal.{checked};
+ghost use Rattle.geometry.specs.Answers.{check_meaning};
+ghost use Rattle.saved.specs.Form.{face_byte, without_sign, face_of};
+ghost use Rattle.saved.specs.Read.{bad_face_byte, bad_face_bytes};
+
+use geometry::axis::{AxisPermutation, PermutationAnswer};
+use geometry::face::OrientedBlockFace;
+use geometry::refusal::CheckAnswer;
+
+// What a byte has for a sign of -1.
+const MINUS: u8 = 8;
+
+// The byte where the face bytes begin, after section 0's count.
+const FIRST: usize = 4;
+
+// The byte of a face.
+pub(crate) fn of_face(face: OrientedBlockFace) -> u8
+    ensures { result ≡ face_byte face }
+{
+    let permutation = face.permutation;
+    let number = permutation.number() as u8;
+    if face.n_sign == -1 {
+        return number + MINUS;
+    }
+    number
+}
+
+// The permutation's number in a byte.
+fn number(byte: u8) -> u32
+    ensures { result ≡ without_sign byte }
+{
+    if byte < MINUS {
+        return byte as u32;
+    }
+    (byte - MINUS) as u32
+}
+
+// The permutation of a byte. Where there is none, which `check` tells, any will do.
+fn permutation(byte: u8) -> AxisPermutation
+    ensures { result ≡ get_or permutations (without_sign byte) Xyz }
+{
+    match AxisPermutation::from_number(number(byte)) {
+        PermutationAnswer::Permutation(found) => found,
+        PermutationAnswer::Refused(_) => AxisPermutation::Xyz,
+    }
+}
+
+// The face of a byte.
+fn face(byte: u8) -> OrientedBlockFace
+    ensures { result ≡ face_of byte }
+{
+    let found = permutation(byte);
+    if byte < MINUS {
+        return OrientedBlockFace {
+            n_sign: 1,
+            permutation: found,
+        };
+    }
+    OrientedBlockFace {
+        n_sign: -1,
+        permutation: found,
+    }
+}
+
+// The check of one byte.
+fn check_byte(byte: u8) -> CheckAnswer
+    ensures { check_meaning result ≡ checked (bad_face_byte byte ∷ []) }
+{
+    match AxisPermutation::from_number(number(byte)) {
+        PermutationAnswer::Permutation(_) => CheckAnswer::Passed,
+        PermutationAnswer::Refused(refusal) => CheckAnswer::Refused(refusal, 0),
+    }
+}
+
+// The check of a file's six face bytes: the first outside the code is refused, with its number.
+pub(crate) fn check(bytes: &[u8]) -> CheckAnswer
+    requires { 10 ≤ length bytes.now }
+    ensures { check_meaning result ≡ checked (bad_face_bytes (take 6 (drop 4 bytes.now))) }
+{
+    let mut k: usize = 0;
+    while k < 6 {
+        let at = FIRST + k;
+        match check_byte(bytes[at]) {
+            CheckAnswer::Refused(number, _) => {
+                return CheckAnswer::Refused(number, k as u64);
+            }
+            CheckAnswer::Passed => {}
+        }
+        k += 1;
+    }
+    CheckAnswer::Passed
+}
+
+// The six faces of a file.
+pub(crate) fn faces(bytes: &[u8]) -> [OrientedBlockFace; 6]
+    requires { 10 ≤ length bytes.now }
+    ensures { result ≡ map face_of (take 6 (drop 4 bytes.now)) }
+{
+    [
+        face(bytes[4]),
+        face(bytes[5]),
+        face(bytes[6]),
+        face(bytes[7]),
+        face(bytes[8]),
+        face(bytes[9]),
+    ]
+}
