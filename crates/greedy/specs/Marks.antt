@@ -1,4 +1,4 @@
--- For src/visited.rt: the visited bytes, set by indices. That a byte at a point's index tells 'visited' is `Tells-more` (proofs/Told.antt).
+-- For src/visited.rt: the visited bytes, set by indices. That a byte at a point's index tells 'visited' is `tells_more` (proofs/Told.antt).
 use Rattle.std.specs.Prelude.{List, ℕ, ◌+◌, ◌*◌, ◌≤◌, ◌<◌, set}
 use Rattle.voxels.specs.Entered.{most_voxels}
 use Rattle.voxels.specs.Loop.{steps}

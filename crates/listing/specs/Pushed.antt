@@ -1,4 +1,4 @@
--- How a mesher lists, item by item: each item is written where there is room, and counted. Groups that are listed so leave what `lay` says (proofs/Pushed.antt, `all_Laid`).
+-- How a mesher lists, item by item: each item is written where there is room, and counted. Groups that are listed so leave what `lay` says (proofs/Pushed.antt, `all_laid`).
 use Rattle.std.specs.Prelude.{true, false, List, [], ◌∷◌, map, ◌≡◌, ℕ, ◌+◌, ◌*◌, ltb, length, set}
 use Rattle.listing.specs.Listing.{joined, capacity}
 

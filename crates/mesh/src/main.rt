@@ -2,7 +2,7 @@
 //
 //     mesh [--unit | --obj] [--box X0 Y0 Z0 X1 Y1 Z1] X Y Z < BLOCK
 //
-// BLOCK has the X.Y.Z voxels of the block, x fastest, then y, then z, two bytes each, the low byte
+// BLOCK has the X·Y·Z voxels of the block, x fastest, then y, then z, two bytes each, the low byte
 // first. The block is meshed on the six faces of a cube, and a line is printed for each quad: the
 // face and the quad's minimum x, y and z, width and height. The last line has the number of quads of
 // each face and the tests. `--unit` meshes unit quads, which have a minimum alone and take no tests,

@@ -26,6 +26,6 @@ InShape shape p = (a : Axis) → along a p < along a shape
 abbrev pub Field : Type 0
 Field = Point → ℕ
 
--- A block's field: its voxels, read by their index. (`get_or`'s last argument is what stands past the end of the list; an accepted call never comes there.)
+-- A block's field: its voxels, read by their index. (`slice_index` gives 0 past the end of the list; an accepted call never comes there.)
 unfoldable pub field : Point → List ℕ → Field
 field shape voxels p = slice_index voxels (index shape p)
