@@ -1,0 +1,2 @@
+-- That every contract leaves one outcome.
+pub mod Unique
