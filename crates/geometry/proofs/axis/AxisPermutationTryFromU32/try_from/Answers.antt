@@ -1,8 +1,8 @@
--- `AxisPermutation::from_number` meets its contract: an arm's number is its permutation's, and what is left is 6 or more.
+-- A permutation from a number meets its contract: an arm's number is its permutation's, and what is left is 6 or more.
 use native.Mathlib.Omega.{arith}
 use Rattle.geometry.specs.declared.axis.AxisPermutation.TheVariants.{Xyz, Zxy, Yzx, Zyx, Xzy, Yxz}
 use Rattle.geometry.proofs.Axes.{number_is, number_none}
-use Rattle.geometry.proofs.axis.AxisPermutation.from_number.Goals as goal
+use Rattle.geometry.proofs.axis.AxisPermutationTryFromU32.try_from.Goals as goal
 
 pub returns-in-0 : goal.returns-in-0
 returns-in-0 c = number_is Xyz c.in-0.is
@@ -23,4 +23,4 @@ pub returns-in-5 : goal.returns-in-5
 returns-in-5 c = number_is Yxz c.in-5.is
 
 pub returns-in_default : goal.returns-in_default
-returns-in_default c = number_none (omega arith)
+returns-in_default c = rw c.at.ensures (number_none (omega arith))

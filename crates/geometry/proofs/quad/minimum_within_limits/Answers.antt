@@ -3,7 +3,7 @@ use Prim.Native.Nat.{◌-◌}
 use borrow.Author.Tests.{le-leb, lt-leb}
 use native.Mathlib.Omega.{arith}
 use Rattle.geometry.specs.Quad.{largest_axis, minimum_within_limits}
-use Rattle.geometry.proofs.face.minimum_within_limits.Goals as goal
+use Rattle.geometry.proofs.quad.minimum_within_limits.Goals as goal
 
 pub returns-then-p-ge-LARGEST_AXIS : goal.returns-then-p-ge-LARGEST_AXIS
 unfolding minimum_within_limits

@@ -3,7 +3,7 @@ use Prim.Native.Nat.{◌+◌}
 use borrow.Author.Tests.{le-leb, lt-leb}
 use native.Mathlib.Omega.{arith}
 use Rattle.geometry.specs.Quad.{largest_axis, side_within_limits}
-use Rattle.geometry.proofs.face.side_within_limits.Goals as goal
+use Rattle.geometry.proofs.quad.side_within_limits.Goals as goal
 
 pub returns-then-side-eq0 : goal.returns-then-side-eq0
 unfolding side_within_limits
