@@ -8,10 +8,9 @@ use lib.ListN.{length}
 use borrow.Author.Tests.{ltb-true, ltb-false}
 use Rattle.geometry.specs.Refusal.{Answer, accepted, refused, answer, follow}
 use Rattle.geometry.proofs.Refusals.{split}
-use Rattle.listing.specs.declared.MeshAnswer.{MeshAnswer}
 use Rattle.listing.specs.Listing.{joined, capacity, too_many, lay}
 use Rattle.listing.specs.Pushed.{MadeGroups}
-use Rattle.listing.specs.Outcome.{mesh_answer, reported, listed_after, outcome, listed_outcome}
+use Rattle.listing.specs.Outcome.{MeshAnswer, mesh_answer, reported, listed_after, outcome, listed_outcome}
 use Rattle.listing.proofs.Pushed.{lay_many, lay_fits}
 use Rattle.listing.proofs.Groups.{laid_out, laid_answer}
 
