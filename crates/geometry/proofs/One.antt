@@ -59,6 +59,37 @@ reason_back File = refl
 reason_back NoSuchNumber = refl
 reason_back Counts = refl
 
+-- No reason has the number 0, which is an accepted call's.
+pub number_some : (r : Reason) → number r ≡ 0 → ⊥
+number_some Shape e = cc
+number_some FewVoxels e = cc
+number_some MinAboveMax e = cc
+number_some MaxPastShape e = cc
+number_some MinIsMax e = cc
+number_some FaceSign e = cc
+number_some FewVisited e = cc
+number_some BadVoxel e = cc
+number_some ManyQuads e = cc
+number_some NoDirection e = cc
+number_some ManyDirections e = cc
+number_some QuadLimits e = cc
+number_some ManyVertices e = cc
+number_some VoxelSize e = cc
+number_some ShortOutput e = cc
+number_some File e = cc
+number_some NoSuchNumber e = cc
+number_some Counts e = cc
+
+-- The refusal of a reason and a place.
+abbrev refused_for : Reason → ℕ → Refusal
+refused_for r p = record { reason = r; place = p }
+
+-- Refusals of one number and one place are one.
+pub refusal_one : (e e' : Refusal) → number e.reason ≡ number e'.reason → e.place ≡ e'.place → e ≡ e'
+refusal_one e e' n p =
+    let reasons_same : e.reason ≡ e'.reason = sym (reason_back e.reason) ∙ ap (λ (k : ℕ). get_or reasons k Shape) n ∙ reason_back e'.reason in
+    ap (λ (r : Reason). refused_for r e.place) reasons_same ∙ ap (refused_for e'.reason) p
+
 -- Two answers with one meaning are one.
 pub meaning_one : {A : Type 0} (r r' : Result A Refusal) → meaning r ≡ meaning r' → r ≡ r'
 meaning_one = answered meaning Ok (λ n p. Err (refusal n p)) (elim [ Ok a ↦ refl | Err e ↦ ap (λ (r : Reason). Err (record { reason = r; place = e.place })) (reason_back e.reason) ])

@@ -9,9 +9,10 @@
 
 ghost use Rattle.std.specs.Prelude.{◌≡◌, ◌+◌, ◌*◌, ◌<◌, ◌≤◌, length};
 ghost use Rattle.geometry.specs.Refusal.{accepted};
+ghost use Rattle.geometry.specs.Answers.{meaning};
 ghost use Rattle.voxels.specs.Entered.{most_voxels};
 ghost use Rattle.listing.specs.Pushed.{output, pushed};
-ghost use Rattle.greedy.specs.Greedy.{quad_numbers, numbers_of, listed, outcome, greedy_from, greedy_quads};
+ghost use Rattle.greedy.specs.Greedy.{quad_numbers, numbers_of, listed, greedy_answer, outcome, greedy_from, greedy_quads};
 ghost use Rattle.greedy.specs.Walks.{Touches, needs_at, WalkReady, Idle};
 ghost use Rattle.greedy.specs.Scans.{progress, SpotReady, RowScan, SliceScan, SlicesScan, voxel_tests, row_tests, slice_tests, face_tests, ample_tests, RoomFor, Accepted, QuadLaid, RowScanned, SliceScanned, SlicesScanned, FaceMeshed, FacesMeshed};
 ghost use Rattle.voxels.specs.Shape as shape;
@@ -22,9 +23,8 @@ mod visited;
 
 use crate::face_scan::FaceScan;
 use geometry::face::OrientedBlockFace;
+use geometry::refusal::Refusal;
 use geometry::vector::UVec3;
-use listing::MeshAnswer;
-use voxels::bounds::EntryAnswer;
 use voxels::extent::Extent;
 use voxels::index::{Stride, VoxelIndex};
 use voxels::{bounds, voxel};
@@ -32,12 +32,12 @@ use voxels::{bounds, voxel};
 // How many numbers a listed quad has: minimum x, y, z, width, height.
 pub const QUAD_NUMBERS: usize = 5;
 
-// What greedy meshing answers.
+// What greedy meshing reports of a call that is not refused.
 #[derive(Clone, Copy)]
-pub struct GreedyAnswer {
-    // The refusal, its place and the counts.
-    pub mesh: MeshAnswer,
-    // The voxel tests, summed over the six faces; 0 where the call was refused.
+pub struct GreedyMesh {
+    // How many quads each of the six groups has.
+    pub counts: [u64; 6],
+    // The voxel tests, summed over the six faces.
     pub tests: u64,
 }
 
@@ -330,7 +330,7 @@ fn mesh_faces(
     }
 }
 
-// The answer of an accepted call, what it lists, and the marks cleared again.
+// The report of an accepted call, what it lists, and the marks cleared again.
 fn mesh(
     voxels: &[u16],
     voxels_shape: UVec3,
@@ -339,31 +339,27 @@ fn mesh(
     faces: [OrientedBlockFace; 6],
     visited: &mut [u8],
     out: &mut [u32],
-) -> GreedyAnswer
+) -> Result<GreedyMesh, Refusal>
     requires size_value { size ≡ shape.size voxels_shape }
     requires accepted { Accepted (length voxels.now) (length visited.old) voxels_shape interior }
-    ensures { outcome result visited.new out.new ≡ greedy_from (accepted tt) size interior (shape.field voxels_shape voxels.now) faces visited.old out.old }
+    ensures { outcome (greedy_answer (meaning result)) visited.new out.new ≡ greedy_from (accepted tt) size interior (shape.field voxels_shape voxels.now) faces visited.old out.old }
 {
     let capacity = out.len() / QUAD_NUMBERS;
     let meshed = mesh_faces(voxels, visited, out, size, voxels_shape, interior, faces);
     visited::clear(visited, size);
-    let counts = meshed.counts;
-    let mesh = listing::answered(meshed.listed, capacity, counts);
-    if capacity < meshed.listed {
-        return GreedyAnswer { mesh, tests: 0 };
-    }
-    GreedyAnswer {
-        mesh,
+    let counts = listing::answered(meshed.listed, capacity, meshed.counts)?;
+    Ok(GreedyMesh {
+        counts,
         tests: meshed.tests,
-    }
+    })
 }
 
 // Quads that cover every visible face of a voxel in the interior of the box from `min` to `max`: six
 // groups in the order of `faces`, end to end in `out`, five numbers a quad, each group's quads in the
 // order that greedy meshing finds them.
 //
-// Anything may be handed in. A refused call has zero counts and tests; by 1 to 8 it leaves both
-// buffers as they were, by 9, more quads than fit, the first of them in `out`. `visited` has a byte a
+// Anything may be handed in. A call that is refused by 1 to 8 leaves both buffers as they were, one that
+// is refused by 9, more quads than fit, the first of them in `out`. `visited` has a byte a
 // voxel of the shape, or more. What it holds does not matter; where the call is not refused by 1 to 8
 // those bytes are 0 afterwards. Nothing past the last quad written in `out`, and no other byte of
 // `visited`, is changed.
@@ -375,25 +371,17 @@ pub fn greedy_quads(
     faces: [OrientedBlockFace; 6],
     visited: &mut [u8],
     out: &mut [u32],
-) -> GreedyAnswer
-    ensures { outcome result visited.new out.new ≡ greedy_quads voxels.now voxels_shape min max faces visited.old out.old }
+) -> Result<GreedyMesh, Refusal>
+    ensures { outcome (greedy_answer (meaning result)) visited.new out.new ≡ greedy_quads voxels.now voxels_shape min max faces visited.old out.old }
 {
-    match bounds::enter_greedy(voxels, voxels_shape, min, max, faces, visited.len()) {
-        EntryAnswer::Refused(number, place) => {
-            let mesh = listing::refused(number, place);
-            GreedyAnswer { mesh, tests: 0 }
-        }
-        EntryAnswer::Entered(entry) => {
-            let size = entry.size as usize;
-            mesh(
-                voxels,
-                voxels_shape,
-                size,
-                entry.interior,
-                faces,
-                visited,
-                out,
-            )
-        }
-    }
+    let entry = bounds::enter_greedy(voxels, voxels_shape, min, max, faces, visited.len())?;
+    mesh(
+        voxels,
+        voxels_shape,
+        entry.size as usize,
+        entry.interior,
+        faces,
+        visited,
+        out,
+    )
 }

@@ -7,8 +7,9 @@
 
 ghost use Rattle.std.specs.Prelude.{◌≡◌, length};
 ghost use Rattle.geometry.specs.Refusal.{accepted};
+ghost use Rattle.geometry.specs.Answers.{meaning};
 ghost use Rattle.voxels.specs.Shape.{field};
-ghost use Rattle.listing.specs.Outcome.{outcome};
+ghost use Rattle.listing.specs.Outcome.{mesh_answer, outcome};
 ghost use Rattle.simple.specs.Unit.{unit_from, visible_block_faces};
 ghost use Rattle.simple.specs.Ready.{Room};
 ghost use Rattle.simple.specs.Kernel.{Meshable, kernel_stride, KernelOf, Starts, GroupsMade};
@@ -19,10 +20,9 @@ mod rows;
 
 use crate::rows::Slices;
 use geometry::face::OrientedBlockFace;
+use geometry::refusal::Refusal;
 use geometry::vector::UVec3;
-use listing::MeshAnswer;
 use voxels::bounds;
-use voxels::bounds::EntryAnswer;
 use voxels::extent::Extent;
 use voxels::index::{Stride, VoxelIndex};
 
@@ -100,21 +100,20 @@ fn mesh_faces(
     Meshed { listed, counts }
 }
 
-// The answer of an accepted call, and what it lists.
+// The counts of an accepted call, and what it lists.
 fn mesh(
     voxels: &[u16],
     voxels_shape: UVec3,
     interior: Extent,
     faces: [OrientedBlockFace; 6],
     out: &mut [u32],
-) -> MeshAnswer
+) -> Result<[u64; 6], Refusal>
     requires { Meshable voxels.now voxels_shape interior }
-    ensures { outcome result out.new ≡ unit_from (accepted tt) interior (field voxels_shape voxels.now) faces out.old }
+    ensures { outcome (mesh_answer (meaning result)) out.new ≡ unit_from (accepted tt) interior (field voxels_shape voxels.now) faces out.old }
 {
     let capacity = out.len() / 3;
     let meshed = mesh_faces(voxels, out, voxels_shape, interior, faces);
-    let counts = meshed.counts;
-    listing::answered(meshed.listed, capacity, counts)
+    listing::answered(meshed.listed, capacity, meshed.counts)
 }
 
 // A unit quad for every visible face of a voxel in the interior of the box from `min` to `max`: six
@@ -126,14 +125,9 @@ pub fn visible_block_faces(
     max: UVec3,
     faces: [OrientedBlockFace; 6],
     out: &mut [u32],
-) -> MeshAnswer
-    ensures { outcome result out.new ≡ visible_block_faces voxels.now voxels_shape min max faces out.old }
+) -> Result<[u64; 6], Refusal>
+    ensures { outcome (mesh_answer (meaning result)) out.new ≡ visible_block_faces voxels.now voxels_shape min max faces out.old }
 {
-    match bounds::enter_unit(voxels, voxels_shape, min, max, faces) {
-        EntryAnswer::Refused(number, place) => listing::refused(number, place),
-        EntryAnswer::Entered(entry) => {
-            let interior = entry.interior;
-            mesh(voxels, voxels_shape, interior, faces, out)
-        }
-    }
+    let entry = bounds::enter_unit(voxels, voxels_shape, min, max, faces)?;
+    mesh(voxels, voxels_shape, entry.interior, faces, out)
 }
