@@ -18,6 +18,7 @@ ghost use Rattle.geometry.specs.Answers.{meaning};
 ghost use Rattle.geometry.specs.Inner.{WithinBounds};
 
 use crate::axis::{Axis, AxisPermutation, SignedAxis};
+use crate::placed::PlacedQuad;
 use crate::quad::UnorientedQuad;
 use crate::refusal::{Reason, Refusal, first_refusal};
 use crate::vector::{IVec3, UVec3};
@@ -157,6 +158,13 @@ impl OrientedBlockFace {
         Ok(())
     }
 
+    // Whether the face looks to the positive side.
+    pub(crate) fn is_positive(self) -> bool
+        ensures { result ≡ positive self.n_sign }
+    {
+        self.n_sign > 0
+    }
+
     // What a call that draws a quad on a face checks first: 6, then 12.
     fn check_drawing(self, quad: UnorientedQuad) -> Result<(), Refusal>
         ensures { meaning result ≡ checked (quad_checks self quad) }
@@ -213,62 +221,7 @@ impl OrientedBlockFace {
         ensures { meaning result ≡ quad_corners self quad }
     {
         self.check_drawing(quad)?;
-        Ok(self.corners(quad))
-    }
-
-    // The four corners of a quad within the limits.
-    fn corners(self, quad: UnorientedQuad) -> QuadCorners
-        requires { WithinBounds self quad }
-        ensures { result ≡ corners self quad }
-    {
-        let permutation = self.permutation;
-        let axes = permutation.axes();
-        let u = axes.u;
-        let v = axes.v;
-        let minu_minv = self.base(quad);
-        let maxu_minv = step(minu_minv, u, quad.width);
-        let minu_maxv = step(minu_minv, v, quad.height);
-        let maxu_maxv = step(maxu_minv, v, quad.height);
-        QuadCorners {
-            minu_minv,
-            maxu_minv,
-            minu_maxv,
-            maxu_maxv,
-        }
-    }
-
-    // The corner that every other is counted from.
-    fn base(self, quad: UnorientedQuad) -> UVec3
-        requires { WithinBounds self quad }
-        ensures { result ≡ base self quad }
-    {
-        let permutation = self.permutation;
-        let axes = permutation.axes();
-        let n = axes.n;
-        let minimum = quad.minimum;
-        if self.n_sign > 0 {
-            step(minimum, n, 1)
-        } else {
-            minimum
-        }
-    }
-
-    // One corner of a quad within the limits.
-    fn corner(self, quad: UnorientedQuad, which: Corner) -> UVec3
-        requires { WithinBounds self quad }
-        ensures { result ≡ corner self quad which }
-    {
-        let permutation = self.permutation;
-        let axes = permutation.axes();
-        let u = axes.u;
-        let v = axes.v;
-        let minu_minv = self.base(quad);
-        match which {
-            Corner::MinuMinv => minu_minv,
-            Corner::MaxuMinv => step(minu_minv, u, quad.width),
-            Corner::MinuMaxv => step(minu_minv, v, quad.height),
-            Corner::MaxuMaxv => step(step(minu_minv, u, quad.width), v, quad.height),
-        }
+        Ok(PlacedQuad { face: self, quad }.corners())
     }
 
     // The positions of the four corners, in the order of `quad_corners`: each coordinate times the
@@ -281,24 +234,7 @@ impl OrientedBlockFace {
         ensures { meaning result ≡ quad_positions self quad voxel_size }
     {
         self.check_placing(quad, voxel_size)?;
-        Ok(self.positions(quad, voxel_size))
-    }
-
-    // The four positions of a quad within the limits.
-    fn positions(self, quad: UnorientedQuad, voxel_size: f32) -> QuadPositions
-        requires { WithinBounds self quad }
-        ensures { result ≡ positions self quad voxel_size }
-    {
-        let minu_minv = self.position(quad, Corner::MinuMinv, voxel_size);
-        let maxu_minv = self.position(quad, Corner::MaxuMinv, voxel_size);
-        let minu_maxv = self.position(quad, Corner::MinuMaxv, voxel_size);
-        let maxu_maxv = self.position(quad, Corner::MaxuMaxv, voxel_size);
-        QuadPositions {
-            minu_minv,
-            maxu_minv,
-            minu_maxv,
-            maxu_maxv,
-        }
+        Ok(PlacedQuad { face: self, quad }.positions(voxel_size))
     }
 
     // The position of one corner: what the drawing code asks for. Refuses by 6, then 12, then 14.
@@ -311,7 +247,7 @@ impl OrientedBlockFace {
         ensures { meaning result ≡ quad_position self quad which voxel_size }
     {
         self.check_placing(quad, voxel_size)?;
-        Ok(self.position(quad, which, voxel_size))
+        Ok(PlacedQuad { face: self, quad }.position(which, voxel_size))
     }
 
     // What a call that gives positions checks: 6, then 12, then 14.
@@ -319,23 +255,6 @@ impl OrientedBlockFace {
         ensures { meaning result ≡ checked (position_checks self quad voxel_size) }
     {
         first_refusal(self.check_drawing(quad), check_size(voxel_size))
-    }
-
-    // The position of one corner of a quad within the limits: each coordinate is cast exactly, and
-    // the product is the one rounding.
-    fn position(self, quad: UnorientedQuad, which: Corner, voxel_size: f32) -> Position
-        requires { WithinBounds self quad }
-        ensures { result ≡ position voxel_size (corner self quad which) }
-    {
-        let c = self.corner(quad, which);
-        let x = c.x as f32;
-        let y = c.y as f32;
-        let z = c.z as f32;
-        Position {
-            x: voxel_size * x,
-            y: voxel_size * y,
-            z: voxel_size * z,
-        }
     }
 
     // The signed normal at each of the four corners, its zeros plus zero. Refuses by 6.
@@ -421,30 +340,6 @@ impl OrientedBlockFace {
             return u_flip_face != n;
         }
         u_flip_face == n
-    }
-}
-
-// A point, `by` steps up along an axis.
-fn step(p: UVec3, axis: Axis, by: u32) -> UVec3
-    requires { along axis p + by < 2 ^ 32 }
-    ensures { result ≡ moved axis by p }
-{
-    match axis {
-        Axis::X => UVec3 {
-            x: p.x + by,
-            y: p.y,
-            z: p.z,
-        },
-        Axis::Y => UVec3 {
-            x: p.x,
-            y: p.y + by,
-            z: p.z,
-        },
-        Axis::Z => UVec3 {
-            x: p.x,
-            y: p.y,
-            z: p.z + by,
-        },
     }
 }
 

@@ -13,10 +13,10 @@ returns-in_err-check_drawing c =
     let a = c.args in
     refusal_given (quad_checks a.self a.quad) _ _ c.in_err-check_drawing.field-0.0 c.from_residual.ensures.1 c.in_err-check_drawing.ensures
 
-pub corners-requires : goal.corners-requires
-corners-requires c =
+pub invariant_of-corners : goal.invariant_of-corners
+invariant_of-corners c =
     let a = c.args in
-    quad_within_bounds a.self a.quad [] (sym c.in_ok-check_drawing.ensures)
+    record { within = quad_within_bounds a.self a.quad [] (sym c.in_ok-check_drawing.ensures) }
 
 pub returns : goal.returns
 unfolding quad_corners

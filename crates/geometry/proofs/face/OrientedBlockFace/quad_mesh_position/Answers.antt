@@ -13,10 +13,10 @@ returns-in_err-check_placing c =
     let a = c.args in
     refusal_given (position_checks a.self a.quad a.voxel_size) _ _ c.in_err-check_placing.field-0.0 c.from_residual.ensures.1 c.in_err-check_placing.ensures
 
-pub position-requires : goal.position-requires
-position-requires c =
+pub invariant_of-position : goal.invariant_of-position
+invariant_of-position c =
     let a = c.args in
-    quad_within_bounds a.self a.quad (bad_size a.voxel_size ∷ []) (sym c.in_ok-check_placing.ensures)
+    record { within = quad_within_bounds a.self a.quad (bad_size a.voxel_size ∷ []) (sym c.in_ok-check_placing.ensures) }
 
 pub returns : goal.returns
 unfolding quad_position

@@ -3,7 +3,7 @@ use mathlib.Core.Path.{ap}
 use native.Mathlib.Omega.{arith}
 use Rattle.geometry.specs.Point.{along, put, moved}
 use Rattle.geometry.specs.declared.axis.Axis.{Axis}
-use Rattle.geometry.proofs.face.step.Goals as goal
+use Rattle.geometry.proofs.placed.step.Goals as goal
 
 pub overflow_add-result : goal.overflow_add-result
 unfolding along put moved
