@@ -4,11 +4,11 @@ use mathlib.Core.Path.{◌≡◌, sym, ◌∙◌, ap}
 use Prim.Native.Nat.{ℕ, ◌+◌, ◌≤◌, ◌<◌}
 use native.Mathlib.Nat.{add-zero}
 use native.Mathlib.Omega.{arith}
-use lib.ListN.{length, length-append, take, get_or, set}
-use lib.Seq.{take_all}
+use lib.ListN.{length, length-append, set}
+use borrow.Rule.Slice.PartMut.{put_mid}
 use Rattle.listing.specs.Listing.{overwritten}
 use Rattle.listing.specs.Pushed.{set_all}
-use Rattle.listing.proofs.Pushed.{set_all_after, set_all_append, set_all_length, set_next}
+use Rattle.listing.proofs.Pushed.{set_all_after, set_all_append, set_all_length, set_part}
 use Rattle.obj.specs.Page.{Page, page, put, Wrote, Room}
 
 -- Bytes put in two lots.
@@ -98,14 +98,10 @@ module _ {rest out : List ℕ} {at : ℕ} {whole out₀ : List ℕ} {at₀ : ℕ
 
 -- ---- bytes by themselves
 
--- Bytes written one by one: of the first k, one more.
-pub bytes_next : (new out : List ℕ) (at k : ℕ) → k < length new → set (set_all out at (take k new)) (at + k) (get_or new k 0) ≡ set_all out at (take (k + 1) new)
-bytes_next new out at k h = sym (set_next new out at k h)
-
--- All of them.
-pub bytes_done : (new out : List ℕ) (at k : ℕ) {o : List ℕ} → k ≡ length new → o ≡ set_all out at (take k new) → Wrote new out at o (at + k)
+-- Bytes that stand where writing had come.
+pub bytes_stand : (new out : List ℕ) (at k : ℕ) {now : List ℕ} → now ≡ new → k ≡ length new → at + length new ≤ length out → Wrote new out at (put_mid at k out now) (at + length new)
 unfolding put
-bytes_done new out at k all e = record { is = rw (e, all, take_all (length new) new (omega arith)) }
+bytes_stand new out at k is many fits = record { is = ap (λ (o : List ℕ). page o (at + length new)) (set_part out at k is many fits) }
 
 -- One byte after some.
 pub byte_after : (new out : List ℕ) (at b : ℕ) → Wrote (new ++ (b ∷ [])) out at (set (set_all out at new) (at + length new) b) (at + length new + 1)

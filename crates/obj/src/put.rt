@@ -20,13 +20,9 @@ fn bytes(new: &[u8], out: &mut [u8], at: usize) -> usize
     requires { Room new.now out.old at }
     ensures { Wrote new.now out.old at out.new result }
 {
-    let mut k: usize = 0;
-    while k < new.len() {
-        let next = at + k;
-        out[next] = new[k];
-        k += 1;
-    }
-    at + k
+    let end = at + new.len();
+    out[at..end].copy_from_slice(new);
+    end
 }
 
 // A number, and a byte after it.
