@@ -34,10 +34,6 @@ pub fn push(out: &mut [u32], listed: usize, item: &[u32])
         return;
     }
     let start = listed * numbers;
-    let mut k: usize = 0;
-    while k < numbers {
-        let at = start + k;
-        out[at] = item[k];
-        k += 1;
-    }
+    let end = start + numbers;
+    out[start..end].copy_from_slice(item);
 }

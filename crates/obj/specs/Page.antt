@@ -12,29 +12,20 @@ use Rattle.digits.specs.Decimal.{digits}
 use Rattle.writing.specs.Handed.{OrientedQuad, most_quads}
 use Rattle.writing.specs.Left.{quads_left, group_left}
 use Rattle.writing.specs.Statements.{WithinQuad}
+use Rattle.obj.specs.declared.put.Page.{Page}
 use Rattle.obj.specs.Text.{space, line_feed, quad_text}
 
 -- ---- the output
 
--- An output, and how many of its bytes are written.
-pub record Page : Type 0 where
-  pub out : List ℕ
-  pub at : ℕ
-
-abbrev pub page : List ℕ → ℕ → Page
-page out at = record { out = out; at = at }
-
--- Bytes put after those.
-unfoldable pub put : Page → List ℕ → Page
-put p new = page (set_all p.out p.at new) (p.at + length new)
-
--- What a function that writes promises: from where the output stood to where it has come, these bytes were put into it.
-pub record Wrote (new : List ℕ) (out : List ℕ) (at : ℕ) (out' : List ℕ) (at' : ℕ) : Type 0 where
-  pub is : page out' at' ≡ put (page out at) new
+-- What a method that writes promises: these bytes were put into the page's output, behind those that were written, and it is the same output.
+pub record Wrote (new : List ℕ) (was now : Page) : Type 0 where
+  pub bytes : now.out.now ≡ set_all was.out.now was.at new
+  pub at : now.at ≡ was.at + length new
+  pub same : now.out.ghost_name ≡ was.out.ghost_name
 
 -- And what it asks: the output has room for them.
-pub record Room (new : List ℕ) (out : List ℕ) (at : ℕ) : Type 0 where
-  pub fits : at + length new ≤ length out
+pub record Room (new : List ℕ) (was : Page) : Type 0 where
+  pub fits : was.at + length new ≤ length was.out.now
 
 -- A number, and a byte after it.
 abbrev pub ended : ℕ → ℕ → List ℕ

@@ -72,15 +72,11 @@ fn group(face: OrientedBlockFace, quads: &[u32], first: usize, count: usize) -> 
     requires { GroupReady quads.now face first (first * quad_numbers) count }
     ensures { result ≡ length (group_text quads.now face first (first * quad_numbers) count) }
 {
-    let mut length: usize = 0;
-    let mut k: usize = 0;
-    let mut from = first * QUAD_NUMBERS;
-    while k < count {
-        let end = from + QUAD_NUMBERS;
-        let number = first + k;
-        length += quad(face, handed::quad_from(&quads[from..end]), number as u32);
-        from = end;
-        k += 1;
+    let mut length = 0;
+    for k in first..first + count {
+        let from = k * QUAD_NUMBERS;
+        let numbers = &quads[from..from + QUAD_NUMBERS];
+        length += quad(face, handed::quad_from(numbers), k as u32);
     }
     length
 }
@@ -91,14 +87,11 @@ fn mesh(faces: [OrientedBlockFace; 6], counts: [u64; 6], quads: &[u32]) -> usize
     ensures { result ≡ length (obj_text faces counts quads.now) }
 {
     let mut length = HEAD;
-    let mut first: usize = 0;
-    let mut k: usize = 0;
-    while k < 6 {
-        let face = faces[k];
-        let count = counts[k] as usize;
-        length += group(face, quads, first, count);
+    let mut first = 0;
+    for (face, count) in faces.iter().zip(&counts) {
+        let count = *count as usize;
+        length += group(*face, quads, first, count);
         first += count;
-        k += 1;
     }
     length
 }

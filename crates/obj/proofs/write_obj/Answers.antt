@@ -15,7 +15,6 @@ use Rattle.writing.specs.Handed.{total, listed_checks, quads_meaning}
 use Rattle.writing.specs.Written.{outcome, refused_answer, accepted_answer}
 use Rattle.writing.proofs.Outcome.{checks_refuse, short_refused, enough_written}
 use Rattle.obj.specs.Obj.{obj_text, write_obj}
-use Rattle.obj.proofs.Page.{wrote_end, wrote_whole}
 use Rattle.obj.proofs.write_obj.Goals as goal
 use Rattle.obj.proofs.write_obj.Goals.{In-Quads, After-fits}
 
@@ -70,4 +69,4 @@ returns-in-Refused c =
 pub returns-else-not-fits : goal.returns-else-not-fits
 returns-else-not-fits c =
     let enough = leb-true _ _ (fit (goal.at.returns-else-not-fits c).After-fits c.if-not-fits.false) in
-    writes _ _ _ _ c.accepted.ensures (wrote_end c.mesh-end.ensures) (wrote_whole enough c.mesh-end.ensures) (passed (goal.at.returns-else-not-fits c).In-Quads) enough
+    writes _ _ _ _ c.accepted.ensures c.mesh-end.ensures.value c.mesh-end.ensures.out_after (passed (goal.at.returns-else-not-fits c).In-Quads) enough

@@ -1,0 +1,22 @@
+-- `quad` meets its contract: the lines of its corners, and then those of its triangles.
+use mathlib.Core.List.{◌++◌}
+use mathlib.Core.Path.{sym}
+use Rattle.obj.specs.Text.{bytes_of, corner_lines, triangle_lines}
+use Rattle.obj.specs.Page.{Room, on}
+use Rattle.obj.proofs.Page.{wrote_both, wrote_as, room_first, room_second, room_as}
+use Rattle.obj.proofs.Measured.{quad_cut_in_two}
+use Rattle.obj.proofs.put.Page.quad.Goals as goal
+use Rattle.obj.proofs.put.Page.quad.Goals.{Start}
+
+-- There is room for both.
+room : (c : Start) → Room (bytes_of (corner_lines (on c.args.face c.args.quad)) ++ bytes_of (triangle_lines c.args.k (on c.args.face c.args.quad))) c.args.self.now
+room c = room_as (quad_cut_in_two _ _) c.requires.room
+
+pub corners-requires : goal.corners-requires
+corners-requires c = record { drawable = c.requires.drawable; room = room_first _ (room (goal.at.corners-requires c).Start) }
+
+pub triangles-requires : goal.triangles-requires
+triangles-requires c = record { drawable = c.requires.drawable; k_lt_most_quads = c.requires.k_lt_most_quads; room = room_second _ (room (goal.at.triangles-requires c).Start) c.corners.ensures }
+
+pub returns : goal.returns
+returns c = wrote_as (sym (quad_cut_in_two _ _)) (wrote_both c.corners.ensures c.triangles.ensures)
