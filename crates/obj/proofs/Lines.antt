@@ -5,9 +5,8 @@ use Prim.Native.Nat.{ℕ, ◌<◌}
 use native.Mathlib.Omega.{arith}
 use Rattle.geometry.specs.declared.quad.UnorientedQuad.{UnorientedQuad}
 use Rattle.geometry.specs.declared.face.OrientedBlockFace.{OrientedBlockFace}
-use Rattle.geometry.specs.declared.face.QuadCorners.{QuadCorners}
 use Rattle.geometry.specs.declared.face.QuadIndices.{QuadIndices}
-use Rattle.geometry.specs.Corners.{corners}
+use Rattle.geometry.specs.Corners.{QuadCorners, corners}
 use Rattle.geometry.specs.Lists.{Each}
 use Rattle.listing.specs.Listing.{joined}
 use Rattle.writing.specs.Handed.{most_quads}

@@ -8,7 +8,7 @@ ghost use Rattle.obj.specs.Text.{corner_lines, bytes_of, quad_text};
 ghost use Rattle.obj.specs.Obj.{obj_text};
 ghost use Rattle.obj.specs.Page.{on, point_places, triangles_long, Drawable, GroupReady, group_text};
 
-use geometry::face::{CornersAnswer, OrientedBlockFace};
+use geometry::face::OrientedBlockFace;
 use geometry::quad::UnorientedQuad;
 use greedy::QUAD_NUMBERS;
 use writing::handed;
@@ -33,16 +33,12 @@ fn corners(face: OrientedBlockFace, quad: UnorientedQuad) -> usize
     requires { Drawable face quad }
     ensures { result ≡ length (bytes_of (corner_lines (on face quad))) }
 {
-    match face.quad_corners(quad) {
-        CornersAnswer::Corners(corners) => {
-            let a = corners.minu_minv;
-            let d = corners.maxu_maxv;
-            let first = places(a.x, a.y, a.z);
-            let last = places(d.x, d.y, d.z);
-            20 + 2 * (first + last)
-        }
-        CornersAnswer::Refused(_) => 0,
-    }
+    let corners = face.quad_corners(quad).unwrap();
+    let a = corners.minu_minv;
+    let d = corners.maxu_maxv;
+    let first = places(a.x, a.y, a.z);
+    let last = places(d.x, d.y, d.z);
+    20 + 2 * (first + last)
 }
 
 // The two lines of the triangles of the quad of this number.

@@ -9,7 +9,7 @@ ghost use Rattle.obj.specs.Text.{corner_line, triangle_line, corner_lines, trian
 ghost use Rattle.obj.specs.Obj.{obj_text};
 ghost use Rattle.obj.specs.Page.{Wrote, Room, ended, line_of, on, Drawable, GroupReady, group_text};
 
-use geometry::face::{CornersAnswer, IndicesAnswer, OrientedBlockFace, VertexIndex};
+use geometry::face::{OrientedBlockFace, VertexIndex};
 use geometry::quad::UnorientedQuad;
 use geometry::vector::UVec3;
 use greedy::QUAD_NUMBERS;
@@ -77,15 +77,11 @@ impl<'a> Page<'a> {
         requires room { Room (bytes_of (corner_lines (on face quad))) self.old }
         ensures { Wrote (bytes_of (corner_lines (on face quad))) self.old self.new }
     {
-        match face.quad_corners(quad) {
-            CornersAnswer::Corners(corners) => {
-                self.corner(corners.minu_minv);
-                self.corner(corners.maxu_minv);
-                self.corner(corners.minu_maxv);
-                self.corner(corners.maxu_maxv);
-            }
-            CornersAnswer::Refused(_) => {}
-        }
+        let corners = face.quad_corners(quad).unwrap();
+        self.corner(corners.minu_minv);
+        self.corner(corners.maxu_minv);
+        self.corner(corners.minu_maxv);
+        self.corner(corners.maxu_maxv);
     }
 
     // The lines of its triangles, where it is the quad of this number.
@@ -95,13 +91,9 @@ impl<'a> Page<'a> {
         requires room { Room (bytes_of (triangle_lines k (on face quad))) self.old }
         ensures { Wrote (bytes_of (triangle_lines k (on face quad))) self.old self.new }
     {
-        match face.quad_mesh_indices(VertexIndex(4 * k)) {
-            IndicesAnswer::Indices(i) => {
-                self.triangle(i.0, i.1, i.2);
-                self.triangle(i.3, i.4, i.5);
-            }
-            IndicesAnswer::Refused(_) => {}
-        }
+        let i = face.quad_mesh_indices(VertexIndex(4 * k)).unwrap();
+        self.triangle(i.0, i.1, i.2);
+        self.triangle(i.3, i.4, i.5);
     }
 
     // The six lines of a quad.

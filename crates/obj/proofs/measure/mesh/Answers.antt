@@ -18,7 +18,7 @@ pub group-length-requires : goal.group-length-requires
 group-length-requires c = let s = c.in-Some.ensures.steps in groups_ready _ s.0 s.1 _ c.loop-face.invariant.0
 
 pub overflow_add-length : goal.overflow_add-length
-overflow_add-length c = 
+overflow_add-length c =
     let s = c.in-Some.ensures.steps in
     let six_faces : length c.args.faces ≡ 6 = search rules in
     let six_counts : length c.args.counts ≡ 6 = search rules in

@@ -1,36 +1,36 @@
 -- `triangles` meets its contract: two lines, one after the other.
 use mathlib.Core.Path.{◌≡◌, sym, ap}
-use Rattle.geometry.specs.Answers.{indices_meaning}
+use Rattle.std.specs.Result.{is_ok}
 use Rattle.obj.specs.Text.{indices_at}
 use Rattle.obj.specs.Page.{Room, on}
 use Rattle.obj.proofs.Page.{wrote_both, wrote_as, room_first, room_second, room_as}
-use Rattle.obj.proofs.Given.{indices_are, indices_given}
+use Rattle.obj.proofs.Given.{one_value, indices_given}
 use Rattle.obj.proofs.Lines.{two_lines, triangles_lines, small_indices}
 use Rattle.obj.proofs.put.Page.triangles.Goals as goal
-use Rattle.obj.proofs.put.Page.triangles.Goals.{In-Indices}
+use Rattle.obj.proofs.put.Page.triangles.Goals.{After-unwrap-i}
 
 -- What geometry gave are the quad's vertex numbers,
-is : (c : In-Indices) → let a = c.args in c.in-Indices.i ≡ indices_at a.k (on a.face a.quad)
-is c = indices_are _ c.args.quad c.requires.drawable _ c.requires.k_lt_most_quads c.quad_mesh_indices.ensures (ap indices_meaning c.in-Indices.is)
+is : (c : After-unwrap-i) → let a = c.args in c.unwrap-i.result ≡ indices_at a.k (on a.face a.quad)
+is c = one_value c.unwrap-i.ensures (indices_given _ c.args.quad c.requires.drawable _ c.requires.k_lt_most_quads c.quad_mesh_indices.ensures)
 
 -- and there is room for the two lines.
-room : (c : In-Indices) → Room (two_lines c.in-Indices.i) c.args.self.now
+room : (c : After-unwrap-i) → Room (two_lines c.unwrap-i.result) c.args.self.now
 room c = room_as (triangles_lines c.args.k c.args.face c.args.quad (is c)) c.requires.room
+
+pub unwrap-i-requires : goal.unwrap-i-requires
+unwrap-i-requires c = ap is_ok (indices_given _ c.args.quad c.requires.drawable _ c.requires.k_lt_most_quads c.quad_mesh_indices.ensures)
 
 pub triangle-requires : goal.triangle-requires
 triangle-requires c =
-    let here = (goal.at.triangle-requires c).In-Indices in
+    let here = (goal.at.triangle-requires c).After-unwrap-i in
     record { a_bound = (small_indices _ c.args.face c.args.quad c.requires.k_lt_most_quads (is here)).0; room = room_first _ (room here) }
 
-pub triangle-requires-in-Indices : goal.triangle-requires-in-Indices
-triangle-requires-in-Indices c =
-    let here = (goal.at.triangle-requires-in-Indices c).In-Indices in
+pub triangle-requires-2 : goal.triangle-requires-2
+triangle-requires-2 c =
+    let here = (goal.at.triangle-requires-2 c).After-unwrap-i in
     record { a_bound = (small_indices _ c.args.face c.args.quad c.requires.k_lt_most_quads (is here)).1; room = room_second _ (room here) c.triangle.ensures }
 
-pub returns-in-Indices : goal.returns-in-Indices
-returns-in-Indices c =
+pub returns : goal.returns
+returns c =
     let a = c.args in
-    wrote_as (sym (triangles_lines a.k a.face a.quad (is (goal.at.returns-in-Indices c).In-Indices))) (wrote_both c.triangle.ensures c.triangle-in-Indices.ensures)
-
-pub returns-in-Refused : goal.returns-in-Refused
-returns-in-Refused c = absurd (indices_given _ c.args.quad c.requires.drawable _ c.requires.k_lt_most_quads c.quad_mesh_indices.ensures (ap indices_meaning c.in-Refused.is))
+    wrote_as (sym (triangles_lines a.k a.face a.quad (is (goal.at.returns c).After-unwrap-i))) (wrote_both c.triangle.ensures c.triangle-2.ensures)
