@@ -10,8 +10,8 @@ use geometry::vector::IVec3;
 use spunmarrow::draw;
 use std::num::f32_from_bits_with_nan;
 
-// What comes of a call: the refusal number, or 0, and the words of its output, which are as before the
-// call where it is refused.
+// What comes of a call: its refusal, and the words of its output. The refusal is the number that the C
+// interface answers, 0 for none, and no Result: a refused call's output is compared too.
 #[derive(Clone, Copy)]
 struct Outcome<const N: usize> {
     refusal: u32,

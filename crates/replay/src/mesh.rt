@@ -2,6 +2,8 @@
 // voxels, the number of runs, and two numbers for each run; the number of visited bytes and the length of
 // the output; nine numbers of the answer, how many numbers are written, and these; and how many visited
 // bytes are 0.
+ghost use Rattle.std.specs.Prelude.{◌≡◌, IfOk, vec_len};
+
 use crate::fault::{Error, Fault};
 use crate::kind::Kind;
 use crate::record::{BEFORE, BEFORE_BYTE, Record, Source};
@@ -39,14 +41,18 @@ fn padded<T: Clone + Drop>(
     written: &[T],
     length: usize,
     before: T,
-) -> Result<Vec<T>, AllocError> {
+) -> Result<Vec<T>, AllocError>
+    ensures { IfOk result (λ v. vec_len v ≡ length) }
+{
     let mut all = written.to_vec(alloc)?;
     all.resize(length, before)?;
     Ok(all)
 }
 
 // The voxels of runs, of which there are so many.
-fn voxels(alloc: Global, runs: &[[u32; 2]], count: usize) -> Result<Vec<u16>, Error> {
+fn voxels_of(alloc: Global, runs: &[[u32; 2]], count: usize) -> Result<Vec<u16>, Error>
+    ensures { IfOk result (λ v. vec_len v ≡ count) }
+{
     let mut voxels = Vec::new(alloc);
     for [length, voxel] in runs {
         let voxel = u16::try_from(*voxel).map_err(|_| Fault::Runs)?;
@@ -86,7 +92,7 @@ impl Call {
         if written_count > out_length || cleared > visited_length {
             return Err(Error::from(Fault::Small));
         }
-        let voxels = voxels(alloc, runs, voxel_count)?;
+        let voxels = voxels_of(alloc, runs, voxel_count)?;
         let zeros = vec![in alloc; 0; cleared]?;
         let expected = Buffers {
             answer: answer.map(u64::from),
@@ -106,7 +112,10 @@ impl Call {
     }
 
     // The buffers before the call. An answer that no call writes differs from every list's.
-    fn before(&self, alloc: Global) -> Result<Buffers, AllocError> {
+    fn before(&self, alloc: Global) -> Result<Buffers, AllocError>
+        ensures out { IfOk result (λ b. vec_len b.out ≡ vec_len self.now.expected.out) }
+        ensures visited { IfOk result (λ b. vec_len b.visited ≡ vec_len self.now.expected.visited) }
+    {
         Ok(Buffers {
             answer: [u64::MAX; 9],
             out: vec![in alloc; BEFORE; self.expected.out.len()]?,
