@@ -4,8 +4,9 @@ use crate::fault::{Error, Fault};
 use crate::kind::Kind;
 use crate::record::{BEFORE, Record, Source};
 use crate::tally::Tally;
-use geometry::axis::{Axis, SignedAxis, SignedAxisAnswer};
+use geometry::axis::{Axis, SignedAxis};
 use geometry::face::OrientedBlockFace;
+use geometry::refusal::Refusal;
 use geometry::vector::IVec3;
 use spunmarrow::draw;
 use std::num::f32_from_bits_with_nan;
@@ -146,13 +147,13 @@ fn axis(number: u32) -> Result<Axis, Fault> {
 }
 
 // What came of a call that makes a signed axis: its axis and its sign.
-fn made(answer: SignedAxisAnswer) -> Outcome<2> {
+fn made(answer: Result<SignedAxis, Refusal>) -> Outcome<2> {
     match answer {
-        SignedAxisAnswer::Refused(refusal) => Outcome {
-            refusal,
+        Err(refusal) => Outcome {
+            refusal: u32::from(refusal.reason),
             words: [BEFORE; 2],
         },
-        SignedAxisAnswer::Made(made) => Outcome {
+        Ok(made) => Outcome {
             refusal: 0,
             words: [
                 made.unsigned_axis().index() as u32,
@@ -181,16 +182,13 @@ fn signed_axis(sign: i32, number: u32) -> Result<SignedAxis, Fault> {
     if sign != 1 && sign != -1 {
         return Err(Fault::NoInput);
     }
-    match SignedAxis::new(sign, axis(number)?) {
-        SignedAxisAnswer::Made(made) => Ok(made),
-        SignedAxisAnswer::Refused(_) => Err(Fault::NoInput),
-    }
+    SignedAxis::new(sign, axis(number)?).map_err(|_| Fault::NoInput)
 }
 
 pub fn canonical<R: Print>(tally: &mut Tally<'_, R>, record: Record<'_>) -> Result<(), Error> {
     let call = Call::<2, 2>::read(record)?;
     let [sign, number] = call.input;
     let face = OrientedBlockFace::canonical(signed_axis(sign.cast_signed(), number)?);
-    let words = [face.n_sign.cast_unsigned(), face.permutation.number()];
+    let words = [face.n_sign.cast_unsigned(), u32::from(face.permutation)];
     call.compare(tally, Outcome { refusal: 0, words })
 }
