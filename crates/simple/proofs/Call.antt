@@ -4,6 +4,7 @@ use mathlib.Core.List.{List, [], ◌∷◌, ◌++◌, map}
 use mathlib.Core.Path.{◌≡◌, refl, ◌∙◌, ap}
 use Prim.Native.Nat.{ℕ}
 use lib.ListN.{length}
+use Rattle.std.proofs.lemmas.List.{map-id}
 use contract.Lifetimes
 use borrow.Fn.World
 use borrow.Fn.Kinds
@@ -40,13 +41,9 @@ minimum_back : (p : Point) (rest : List ℕ) → minimum_from (numbers_of p ++ r
 unfolding minimum_from
 minimum_back p rest = refl
 
-same_items : {A : Type 0} (l : List A) → map (λ (a : A). a) l ≡ l
-same_items [] = refl
-same_items (a ∷ l) = ap (λ (r : List _). a ∷ r) (same_items l)
-
 same_groups : {A : Type 0} (ls : List (List A)) → map (map (λ (a : A). a)) ls ≡ ls
 same_groups [] = refl
-same_groups (l ∷ ls) = rw (same_items l, same_groups ls)
+same_groups (l ∷ ls) = rw (map-id l, same_groups ls)
 
 module _ (voxels : List ℕ) (shape min max : Point) (faces : List OrientedBlockFace) (was : List ℕ) (r : MeshAnswer) (out : List ℕ)
     (promised : outcome r out ≡ visible_block_faces voxels shape min max faces was) where

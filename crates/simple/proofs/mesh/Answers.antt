@@ -8,9 +8,6 @@ use Rattle.simple.specs.Unit.{unit_numbers, numbers_of, unit_from}
 use Rattle.simple.proofs.Outcome.{three}
 use Rattle.simple.proofs.mesh.Goals as goal
 
-pub mesh_faces-meshed-requires : goal.mesh_faces-meshed-requires
-mesh_faces-meshed-requires c = c.requires
-
 pub returns : goal.returns
 unfolding capacity unit_from listed_after
 returns c = made_outcome unit_numbers numbers_of (omega arith) three c.mesh_faces-meshed.ensures refl (ap mesh_answer c.answered.ensures)
