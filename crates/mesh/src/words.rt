@@ -6,7 +6,8 @@ use std::env::FillError;
 use std::rt::Env;
 use std::str;
 
-// No word of this command is longer.
+// No word of this command is longer. They are read as bytes, since `env::args` gives no word that is not
+// text.
 const LONGEST: usize = 64;
 
 // What is asked for.

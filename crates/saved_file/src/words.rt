@@ -3,7 +3,8 @@ use crate::say::{Failure, WordError, Wrong};
 use std::env::FillError;
 use std::rt::Env;
 
-// No word of this command is longer.
+// No word of this command is longer. They are read as bytes, since `env::args` gives no word that is not
+// text.
 const LONGEST: usize = 64;
 
 // What is asked for.
