@@ -1,7 +1,7 @@
 // Reading a block of voxels from standard input.
 ghost use Rattle.std.specs.Prelude.{◌≤◌, IfOk};
 
-use crate::say::{self, Failure, Wrong};
+use crate::say::{Failure, Wrong};
 use geometry::vector::UVec3;
 use std::io::Read;
 use voxels::bounds;
@@ -13,7 +13,7 @@ const MOST_VOXELS: u32 = 262144;
 fn size(shape: UVec3) -> Result<usize, Wrong>
     ensures { IfOk result (λ n. n ≤ MOST_VOXELS) }
 {
-    say::checked(bounds::check_shape(shape))?;
+    bounds::check_shape(shape)?;
     let size = shape.x.saturating_mul(shape.y).saturating_mul(shape.z);
     if size > MOST_VOXELS {
         return Err(Wrong::Large(size));

@@ -40,14 +40,14 @@ fn cube() -> [OrientedBlockFace; 6] {
 // Meshes unit quads, and prints them.
 fn mesh_unit<R: Print + AllocGlobal>(rt: &R, job: Job, voxels: &[u16]) -> Result<(), Failure> {
     let mut quads = vec![in rt.alloc(); 0u32; MOST_QUADS * UNIT_NUMBERS]?;
-    let counts = say::meshed(simple::visible_block_faces(
+    let counts = simple::visible_block_faces(
         voxels,
         job.shape,
         job.min,
         job.max,
         cube(),
         &mut quads,
-    ))?;
+    )?;
     show::mesh(rt, quads.as_chunks::<UNIT_NUMBERS>().0, counts, None)?;
     Ok(())
 }
@@ -56,7 +56,7 @@ fn mesh_unit<R: Print + AllocGlobal>(rt: &R, job: Job, voxels: &[u16]) -> Result
 fn mesh_greedy<R: Print + AllocGlobal>(rt: &R, job: Job, voxels: &[u16]) -> Result<(), Failure> {
     let mut quads = vec![in rt.alloc(); 0u32; MOST_QUADS * QUAD_NUMBERS]?;
     let mut visited = vec![in rt.alloc(); 0u8; voxels.len()]?;
-    let answer = greedy::greedy_quads(
+    let mesh = greedy::greedy_quads(
         voxels,
         job.shape,
         job.min,
@@ -64,13 +64,12 @@ fn mesh_greedy<R: Print + AllocGlobal>(rt: &R, job: Job, voxels: &[u16]) -> Resu
         cube(),
         &mut visited,
         &mut quads,
-    );
-    let counts = say::meshed(answer.mesh)?;
+    )?;
     if let Form::Obj = job.form {
-        return write_obj(rt, counts, &quads);
+        return write_obj(rt, mesh.counts, &quads);
     }
     let quads = quads.as_chunks::<QUAD_NUMBERS>().0;
-    show::mesh(rt, quads, counts, Some(answer.tests))?;
+    show::mesh(rt, quads, mesh.counts, Some(mesh.tests))?;
     Ok(())
 }
 
@@ -81,7 +80,7 @@ fn write_obj<R: Print + AllocGlobal>(
     quads: &[u32],
 ) -> Result<(), Failure> {
     let mut text = vec![in rt.alloc(); 0u8; MOST_TEXT]?;
-    let written = say::written(obj::write_obj(cube(), counts, quads, &mut text))?;
+    let written = obj::write_obj(cube(), counts, quads, &mut text)?;
     text.truncate(written);
     rt.write_all(&text).map_err(|_| Wrong::Unwritten)?;
     Ok(())

@@ -1,10 +1,8 @@
 // What is said on standard error: what was wrong, and where.
-use geometry::refusal::CheckAnswer;
-use listing::MeshAnswer;
+use geometry::refusal::{Reason, Refusal};
 use std::alloc::AllocError;
 use std::{fmt, io};
 use thiserror::Error;
-use writing::written::WriteAnswer;
 
 // What this command is for, and where more is to be had.
 const LIMITS: &str = "mesh takes at most 262144 voxels and lists at most 131072 quads; \
@@ -37,6 +35,12 @@ impl Failure {
 impl From<Wrong> for Failure {
     fn from(wrong: Wrong) -> Failure {
         Failure::Wrong(wrong)
+    }
+}
+
+impl From<Refusal> for Failure {
+    fn from(refusal: Refusal) -> Failure {
+        Failure::Wrong(Wrong::Refused(Refused(refusal)))
     }
 }
 
@@ -86,60 +90,35 @@ pub enum Wrong {
     Unwritten,
 }
 
-// That a call was refused. The numbers are document 01's and 02's; those that this command cannot get
-// are left out.
+// That a call was refused. The reasons that this command cannot get have no words of their own.
 #[derive(Clone, Copy, Debug)]
-pub struct Refused {
-    number: u32,
-    place: u64,
-}
+pub struct Refused(Refusal);
 
 impl fmt::Display for Refused {
     fn fmt<W: fmt::Write>(&self, f: &mut fmt::Formatter<W>) -> fmt::Result {
-        let Refused { number, place } = *self;
+        let Refusal { reason, place } = self.0;
+        let number = u32::from(reason);
         write!(f, "refused by {number} at {place}: ")?;
-        match number {
-            1 => f.write_str("that axis of the block (0, 1, 2 are x, y, z) is 0 or above 256"),
-            3 => f.write_str("the box starts past its end on that axis (0, 1, 2 are x, y, z)"),
-            4 => f.write_str("the box ends past the block on that axis (0, 1, 2 are x, y, z)"),
-            5 => f.write_str("the box is one voxel thick on that axis (0, 1, 2 are x, y, z)"),
-            8 => f.write_str("the voxel of that index is of class 3, which is bad"),
-            9 => write!(f, "the block has more quads than that: {LIMITS}"),
-            15 => f.write_str(
+        match reason {
+            Reason::Shape => {
+                f.write_str("that axis of the block (0, 1, 2 are x, y, z) is 0 or above 256")
+            }
+            Reason::MinAboveMax => {
+                f.write_str("the box starts past its end on that axis (0, 1, 2 are x, y, z)")
+            }
+            Reason::MaxPastShape => {
+                f.write_str("the box ends past the block on that axis (0, 1, 2 are x, y, z)")
+            }
+            Reason::MinIsMax => {
+                f.write_str("the box is one voxel thick on that axis (0, 1, 2 are x, y, z)")
+            }
+            Reason::BadVoxel => f.write_str("the voxel of that index is of class 3, which is bad"),
+            Reason::ManyQuads => write!(f, "the block has more quads than that: {LIMITS}"),
+            Reason::ShortOutput => f.write_str(
                 "the OBJ text is longer than the 3000000 bytes that mesh holds; \
                  host/obj_file.c writes blocks of any size",
             ),
             _ => f.write_str("the block is refused"),
         }
-    }
-}
-
-// What a check answers.
-pub fn checked(answer: CheckAnswer) -> Result<(), Wrong> {
-    match answer {
-        CheckAnswer::Passed => Ok(()),
-        CheckAnswer::Refused(number, place) => Err(Wrong::Refused(Refused { number, place })),
-    }
-}
-
-// What a mesher answers: how many quads each face has.
-pub fn meshed(answer: MeshAnswer) -> Result<[u64; 6], Wrong> {
-    match answer.refusal {
-        0 => Ok(answer.counts),
-        number => Err(Wrong::Refused(Refused {
-            number,
-            place: answer.place,
-        })),
-    }
-}
-
-// What a writer answers: how many bytes it wrote.
-pub fn written(answer: WriteAnswer) -> Result<usize, Wrong> {
-    match answer.refusal {
-        0 => Ok(answer.written as usize),
-        number => Err(Wrong::Refused(Refused {
-            number,
-            place: answer.place,
-        })),
     }
 }
