@@ -1,15 +1,8 @@
 -- `mesh` meets its contract: what the groups leave is what meshing leaves, with the marks cleared again.
 use mathlib.Core.Path.{refl}
-use native.Mathlib.Omega.{arith}
 use Rattle.listing.specs.Listing.{capacity}
 use Rattle.greedy.proofs.Outcome.{many_left, all_left}
 use Rattle.greedy.proofs.mesh.Goals as goal
-
-pub mesh_faces-meshed-requires : goal.mesh_faces-meshed-requires
-mesh_faces-meshed-requires c = c.requires
-
-pub clear-requires : goal.clear-requires
-clear-requires c = rw c.mesh_faces-meshed.auto.visited (omega (arith, c.requires.size_value, c.requires.accepted.marked))
 
 pub returns-then-capacity-meshed : goal.returns-then-capacity-meshed
 unfolding capacity
