@@ -47,13 +47,13 @@ module _ (vs : List ℕ) (c : FaceScan) (spot : ℕ → Point) where
 
 -- A mesher that has passed so many of them stands as many turns further on.
 pub idle_on : (c : FaceScan) (spot : ℕ → Point) {d a i : ℕ} {was now : Mesher} {k : ℕ} (m : ℕ) → Scanning (λ (voxels : List ℕ). scans voxels c spot) voxel_tests d a i was now k
-    → ((h : ℕ) → h < m → needs_at now.voxels.now now.visited.now c.strides.visibility_offset.0 (i + k * d + h * d) ≡ false)
-    → Scanning (λ (voxels : List ℕ). scans voxels c spot) voxel_tests d a i was (record { voxels = now.voxels; visited = now.visited; out = now.out; listed = now.listed; tests = now.tests + m }) (k + m)
+    → ((h : ℕ) → h < m → needs_at now.block.voxels.now now.visited.now c.strides.visibility_offset.0 (i + k * d + h * d) ≡ false)
+    → Scanning (λ (voxels : List ℕ). scans voxels c spot) voxel_tests d a i was (record { block = now.block; visited = now.visited; out = now.out; listed = now.listed; tests = now.tests + m }) (k + m)
 idle_on c spot {d = d} {a = a} {i = i} {was = was} {now = now} {k = k} m l idle =
-    let act : Scanned → ℕ → ℕ → Scanned = scans was.voxels.now c spot in
-    let passed = scan_idle was.voxels.now c spot (progress now) d (a + k) (i + k * d) m (rw l.same.voxels at idle) in
+    let act : Scanned → ℕ → ℕ → Scanned = scans was.block.voxels.now c spot in
+    let passed = scan_idle was.block.voxels.now c spot (progress now) d (a + k) (i + k * d) m (rw l.same.block at idle) in
     record {
-      same = record { voxels = l.same.voxels; visited = l.same.visited; out = l.same.out; marks_long = l.same.marks_long; out_long = l.same.out_long };
+      same = record { block = l.same.block; visited = l.same.visited; out = l.same.out; marks_long = l.same.marks_long; out_long = l.same.out_long };
       made = passed ∙ ap (λ (s : Scanned). steps d act s (a + k) (i + k * d) m) l.made ∙ sym (steps_parts d act (progress was) a i k m);
       few = omega (arith, l.few);
       bound = omega (arith, l.bound, add-mul k m voxel_tests);

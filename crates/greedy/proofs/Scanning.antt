@@ -51,21 +51,21 @@ module _ (vs : List ℕ) (c : FaceScan) (p : Point) (i : ℕ) (s : Scanned) (few
 
 -- A mesher is at its own call, and where it is still at that of another, which is at a third's, it is at the third's.
 pub same_start : {m : Mesher} → SameCall m m
-same_start = record { voxels = refl; visited = refl; out = refl; marks_long = refl; out_long = refl }
+same_start = record { block = refl; visited = refl; out = refl; marks_long = refl; out_long = refl }
 
 pub same_on : {was now then : Mesher} → SameCall was now → SameCall now then → SameCall was then
-same_on s t = record { voxels = t.voxels ∙ s.voxels; visited = t.visited ∙ s.visited; out = t.out ∙ s.out; marks_long = t.marks_long ∙ s.marks_long; out_long = t.out_long ∙ s.out_long }
+same_on s t = record { block = t.block ∙ s.block; visited = t.visited ∙ s.visited; out = t.out ∙ s.out; marks_long = t.marks_long ∙ s.marks_long; out_long = t.out_long ∙ s.out_long }
 
 -- A loop that scans, k turns done: it is at the same call, it has made what the rule makes by then, no more quads than tests, and each turn took at most so many tests.
 pub record Scanning (act : List ℕ → Scanned → ℕ → ℕ → Scanned) (most d a i : ℕ) (was now : Mesher) (k : ℕ) : Type 0 where
   pub same : SameCall was now
-  pub made : progress now ≡ steps d (act was.voxels.now) (progress was) a i k
+  pub made : progress now ≡ steps d (act was.block.voxels.now) (progress was) a i k
   pub few : now.listed ≤ now.tests
   pub bound : now.tests ≤ was.tests + k * most
 
 module _ {act : List ℕ → Scanned → ℕ → ℕ → Scanned} {most d a i : ℕ} {was : Mesher} where
   pub scan_start : was.listed ≤ was.tests → Scanning act most d a i was was 0
-  scan_start few = record { same = same_start; made = steps_none d (act was.voxels.now) (progress was) a i; few = few; bound = omega arith }
+  scan_start few = record { same = same_start; made = steps_none d (act was.block.voxels.now) (progress was) a i; few = few; bound = omega arith }
 
   module _ {now : Mesher} {k : ℕ} (l : Scanning act most d a i was now k) where
     -- Its tests fit,
@@ -77,19 +77,19 @@ module _ {act : List ℕ → Scanned → ℕ → ℕ → Scanned} {most d a i : 
     scan_room {n = n} h room = (l.few, omega (arith, room.1, stride_fits k n most h, l.bound))
 
     -- What the loop asks for holds of the next turn, by the buffers as they are now.
-    pub scan_asks : (Asked : ℕ → ℕ → ℕ → ℕ → Type 0) {n : ℕ} → Stepping (Asked (length was.voxels.now) (length was.visited.now)) d a i n → k < n
-        → Asked (length now.voxels.now) (length now.visited.now) (a + k) (i + k * d)
-    scan_asks Asked ready h = rw (l.same.voxels, l.same.marks_long) (ready.each k h)
+    pub scan_asks : (Asked : ℕ → ℕ → ℕ → ℕ → Type 0) {n : ℕ} → Stepping (Asked (length was.block.voxels.now) (length was.visited.now)) d a i n → k < n
+        → Asked (length now.block.voxels.now) (length now.visited.now) (a + k) (i + k * d)
+    scan_asks Asked ready h = rw (l.same.block, l.same.marks_long) (ready.each k h)
 
-    pub scan_on : {then : Mesher} → SameCall now then → Scans (λ (s : Scanned). act now.voxels.now s (a + k) (i + k * d)) most (progress now) (progress then)
+    pub scan_on : {then : Mesher} → SameCall now then → Scans (λ (s : Scanned). act now.block.voxels.now s (a + k) (i + k * d)) most (progress now) (progress then)
         → Scanning act most d a i was then (k + 1)
     scan_on {then = then} same made =
         record {
           same = same_on l.same same;
-          made = steps_next d (act was.voxels.now) (progress was) a i k (progress now) (progress then) l.made (rw l.same.voxels at made.is);
+          made = steps_next d (act was.block.voxels.now) (progress was) a i k (progress now) (progress then) l.made (rw l.same.block at made.is);
           few = made.few;
           bound = omega (arith, made.bound, l.bound, stride_more k most);
         }
 
-    pub scan_done : {n : ℕ} → k ≡ n → Scans (λ (s : Scanned). steps d (act was.voxels.now) s a i n) (n * most) (progress was) (progress now)
+    pub scan_done : {n : ℕ} → k ≡ n → Scans (λ (s : Scanned). steps d (act was.block.voxels.now) s a i n) (n * most) (progress was) (progress now)
     scan_done e = rw (← e) (record { is = l.made; few = l.few; bound = l.bound })

@@ -18,7 +18,7 @@ use Rattle.listing.specs.Pushed.{output, pushed_all}
 use Rattle.listing.proofs.Groups.{take_next, all_after, groups_next, counts_next, groups_done, counts_done}
 use Rattle.rules.specs.Greedy.{greedy_group, greedy_tests}
 use Rattle.greedy.specs.Greedy.{Listed, listed_group, listed_groups, quad_numbers, numbers_of}
-use Rattle.greedy.specs.Scans.{progress, SameCall, voxel_tests, RoomFor, SameFrom, Accepted, FaceMeshed, FacesMeshed}
+use Rattle.greedy.specs.Scans.{progress, SameCall, voxel_tests, SameFrom, FaceMeshed, FacesMeshed}
 use Rattle.greedy.proofs.Scanning.{same_start, same_on}
 use Rattle.greedy.specs.declared.Mesher.{Mesher}
 use Rattle.greedy.specs.declared.Meshed.{Meshed}
@@ -46,61 +46,64 @@ module _ (inner : Extent) (v : Field) where
 
 -- ---- the loop
 
+-- The field that a mesher's block makes, and the quads that a face lists of it.
+abbrev field_of : Mesher → Field
+field_of m = field m.block.voxels_shape m.block.voxels.now
+
+abbrev group_of : Mesher → OrientedBlockFace → List Listed
+group_of m f = listed_group m.block.interior (field_of m) f
+
 -- k of six faces are meshed: the mesher is at the same call, and what it has listed, counted and tested are those faces' groups.
-pub record SixMeshing (shape : Point) (inner : Extent) (faces : List OrientedBlockFace) (was now : Mesher) (counts : List ℕ) (k : ℕ) : Type 0 where
+pub record SixMeshing (faces : List OrientedBlockFace) (was now : Mesher) (counts : List ℕ) (k : ℕ) : Type 0 where
   pub six : length faces ≡ 6
   pub same : SameCall was now
   pub few : now.listed ≤ now.tests
   pub bound : now.tests ≤ k * (most_voxels * voxel_tests)
-  pub lists : output now.out.now now.listed ≡ pushed_all quad_numbers numbers_of (output was.out.now 0) (joined (map (listed_group inner (field shape was.voxels.now)) (take k faces)))
-  pub counted : counts ≡ map length (map (listed_group inner (field shape was.voxels.now)) (take k faces)) ++ replicate (6 - k) 0
-  pub tested : now.tests ≡ greedy_tests inner (field shape was.voxels.now) (take k faces)
-  pub rest : SameFrom (size shape) was.visited.now now.visited.now
+  pub lists : output now.out.now now.listed ≡ pushed_all quad_numbers numbers_of (output was.out.now 0) (joined (map (group_of was) (take k faces)))
+  pub counted : counts ≡ map length (map (group_of was) (take k faces)) ++ replicate (6 - k) 0
+  pub tested : now.tests ≡ greedy_tests was.block.interior (field_of was) (take k faces)
+  pub rest : SameFrom (size was.block.voxels_shape) was.visited.now now.visited.now
 
-module _ {shape : Point} {inner : Extent} {faces : List OrientedBlockFace} {was : Mesher} where
-  pub six_start : length faces ≡ 6 → was.listed ≡ 0 → was.tests ≡ 0 → SixMeshing shape inner faces was was (replicate 6 0) 0
+module _ {faces : List OrientedBlockFace} {was : Mesher} where
+  pub six_start : length faces ≡ 6 → was.listed ≡ 0 → was.tests ≡ 0 → SixMeshing faces was was (replicate 6 0) 0
   unfolding joined pushed_all greedy_tests
   six_start six none untested =
       record { six = six; same = same_start; few = omega arith; bound = omega arith; lists = rw none; counted = refl; tested = untested; rest = refl }
 
-  module _ {now : Mesher} {counts : List ℕ} {k : ℕ} (l : SixMeshing shape inner faces was now counts k) where
-    -- There is room for a face's tests,
-    pub six_room : k < 6 → RoomFor (most_voxels * voxel_tests) (progress now)
-    six_room h = (l.few, omega (arith, l.bound))
+  module _ {now : Mesher} {counts : List ℕ} {k : ℕ} (l : SixMeshing faces was now counts k) where
+    module _ (then : Mesher) (made : FaceMeshed now.block.voxels.now now.block.voxels_shape now.block.interior (get_or faces k no_face) (progress now) (progress then)) where
+      -- It is the face's group of the block that the call began with.
+      group : FaceMeshed was.block.voxels.now was.block.voxels_shape was.block.interior (get_or faces k no_face) (progress now) (progress then)
+      group = rw l.same.block at made
 
-    -- and the call is still an accepted one.
-    pub six_accepted : Accepted (length was.voxels.now) (length was.visited.now) shape inner → Accepted (length now.voxels.now) (length now.visited.now) shape inner
-    six_accepted h = rw (l.same.voxels, l.same.marks_long) h
-
-    module _ (then : Mesher) (made : FaceMeshed now.voxels.now shape inner (get_or faces k no_face) (progress now) (progress then)) where
       -- A face lists as many quads more as its group has,
-      pub six_more : then.listed ≡ now.listed + length (listed_group inner (field shape was.voxels.now) (get_or faces k no_face))
-      six_more = all_after quad_numbers numbers_of now.out.now then.out.now now.listed then.listed _ (rw l.same.voxels at made.is)
+      pub six_more : then.listed ≡ now.listed + length (group_of was (get_or faces k no_face))
+      six_more = all_after quad_numbers numbers_of now.out.now then.out.now now.listed then.listed _ group.is
 
       -- and then one more is meshed.
-      pub six_on : k < 6 → SameCall now then → SixMeshing shape inner faces was then (set counts k (then.listed - now.listed)) (k + 1)
+      pub six_on : k < 6 → SameCall now then → SixMeshing faces was then (set counts k (then.listed - now.listed)) (k + 1)
       six_on h same =
           record {
             six = l.six;
             same = same_on l.same same;
-            few = made.few;
-            bound = omega (arith, made.bound, l.bound);
-            lists = groups_next quad_numbers numbers_of (listed_group inner (field shape was.voxels.now)) faces no_face k was.out.now (omega (arith, l.six)) l.lists (rw l.same.voxels at made.is);
-            counted = counts_next quad_numbers numbers_of (listed_group inner (field shape was.voxels.now)) faces no_face k 6 counts _ l.six h l.counted (omega (arith, six_more));
-            tested = tests_next inner (field shape was.voxels.now) faces no_face k (omega (arith, l.six)) l.tested (rw l.same.voxels at made.tests_are);
-            rest = made.rest ∙ l.rest;
+            few = group.few;
+            bound = omega (arith, group.bound, l.bound);
+            lists = groups_next quad_numbers numbers_of (group_of was) faces no_face k was.out.now (omega (arith, l.six)) l.lists group.is;
+            counted = counts_next quad_numbers numbers_of (group_of was) faces no_face k 6 counts _ l.six h l.counted (omega (arith, six_more));
+            tested = tests_next was.block.interior (field_of was) faces no_face k (omega (arith, l.six)) l.tested group.tests_are;
+            rest = group.rest ∙ l.rest;
           }
 
-    pub six_done : 6 ≤ k → FacesMeshed was.voxels.now shape inner faces was.visited.now was.out.now now.visited.now now.out.now (record { listed = now.listed; tests = now.tests; counts = counts })
+    pub six_done : 6 ≤ k → FacesMeshed was.block.voxels.now was.block.voxels_shape was.block.interior faces was.visited.now was.out.now now.visited.now now.out.now (record { listed = now.listed; tests = now.tests; counts = counts })
     unfolding listed_groups
     six_done h =
         let all : length faces ≤ k = omega (arith, l.six) in
         record {
           made = record {
-            is = l.lists ∙ ap (λ (g : List (List Listed)). pushed_all quad_numbers numbers_of (output was.out.now 0) (joined g)) (groups_done (listed_group inner (field shape was.voxels.now)) faces k all);
-            each = counts_done (listed_group inner (field shape was.voxels.now)) faces k 6 counts l.six h l.counted;
+            is = l.lists ∙ ap (λ (g : List (List Listed)). pushed_all quad_numbers numbers_of (output was.out.now 0) (joined g)) (groups_done (group_of was) faces k all);
+            each = counts_done (group_of was) faces k 6 counts l.six h l.counted;
           };
-          tests_are = tests_done inner (field shape was.voxels.now) faces k all l.tested;
+          tests_are = tests_done was.block.interior (field_of was) faces k all l.tested;
           rest = l.rest;
         }
 

@@ -37,7 +37,7 @@ listed_on s q = record { marks = s.marks; output = pushed quad_numbers numbers_o
 
 -- A mesher is still at the same call: its block is what it was, and it has the buffers that it had, as long as they were.
 pub record SameCall (was now : Mesher) : Type 0 where
-  pub voxels : now.voxels.now ≡ was.voxels.now
+  pub block : now.block ≡ was.block
   pub visited : now.visited.ghost_name ≡ was.visited.ghost_name
   pub out : now.out.ghost_name ≡ was.out.ghost_name
   pub marks_long : length now.visited.now ≡ length was.visited.now

@@ -89,10 +89,21 @@ impl<'a> FaceView<'a> {
     }
 }
 
+// What an accepted call meshes.
+#[derive(Clone, Copy)]
+struct Block<'a> {
+    voxels: &'a [u16],
+    voxels_shape: UVec3,
+    // How many voxels the shape has.
+    size: usize,
+    // The interior of the box.
+    interior: Extent,
+}
+
 // A call underway: its block, the buffers that it was lent, and how far it is.
 #[derive(Drop)]
 struct Mesher<'a> {
-    voxels: &'a [u16],
+    block: Block<'a>,
     visited: &'a mut [u8],
     out: &'a mut [u32],
     // The quads that it has listed, written or not.
@@ -104,12 +115,12 @@ struct Mesher<'a> {
 impl<'a> Mesher<'a> {
     // Its block as the group of a face sees it now.
     fn view(&self, strides: FaceStrides) -> FaceView<'_>
-        ensures voxels { result.voxels.now ≡ self.now.voxels.now }
+        ensures voxels { result.voxels.now ≡ self.now.block.voxels.now }
         ensures visited { result.visited.now ≡ self.now.visited.now }
         ensures strides { result.strides ≡ strides }
     {
         FaceView {
-            voxels: self.voxels,
+            voxels: self.block.voxels,
             visited: self.visited,
             strides,
         }
@@ -130,8 +141,8 @@ impl<'a> Mesher<'a> {
     // Picks the quad of a voxel that needs a mesh, marks it and lists it.
     fn lay_quad(&mut self, scan: &FaceScan, minimum: UVec3, min_index: VoxelIndex)
         requires room_for { RoomFor voxel_tests (progress self.old) }
-        requires spot_ready { SpotReady (length self.old.voxels.now) (length self.old.visited.now) scan.now minimum min_index.0 }
-        ensures laid { QuadLaid self.old.voxels.now scan.now minimum min_index.0 (progress self.old) (progress self.new) }
+        requires spot_ready { SpotReady (length self.old.block.voxels.now) (length self.old.visited.now) scan.now minimum min_index.0 }
+        ensures laid { QuadLaid self.old.block.voxels.now scan.now minimum min_index.0 (progress self.old) (progress self.new) }
         ensures same_call { SameCall self.old self.new }
     {
         let Axes { u, v, .. } = scan.axes;
@@ -152,8 +163,8 @@ impl<'a> Mesher<'a> {
     // Scans a row of a slice: passes the voxels that need no mesh, and lays the quad of each that does.
     fn scan_row(&mut self, scan: &FaceScan, slice: u32, row: u32, start: VoxelIndex)
         requires room_for { RoomFor (row_tests scan.now) (progress self.old) }
-        requires row_scan { RowScan (length self.old.voxels.now) (length self.old.visited.now) scan.now slice row start.0 }
-        ensures scanned { RowScanned self.old.voxels.now scan.now slice row start.0 (progress self.old) (progress self.new) }
+        requires row_scan { RowScan (length self.old.block.voxels.now) (length self.old.visited.now) scan.now slice row start.0 }
+        ensures scanned { RowScanned self.old.block.voxels.now scan.now slice row start.0 (progress self.old) (progress self.new) }
         ensures same_call { SameCall self.old self.new }
     {
         let Axes { n, .. } = scan.axes;
@@ -180,8 +191,8 @@ impl<'a> Mesher<'a> {
     // Scans a slice, row by row.
     fn scan_slice(&mut self, scan: &FaceScan, slice: u32, start: VoxelIndex)
         requires room_for { RoomFor (slice_tests scan.now) (progress self.old) }
-        requires slice_scan { SliceScan (length self.old.voxels.now) (length self.old.visited.now) scan.now slice start.0 }
-        ensures scanned { SliceScanned self.old.voxels.now scan.now slice start.0 (progress self.old) (progress self.new) }
+        requires slice_scan { SliceScan (length self.old.block.voxels.now) (length self.old.visited.now) scan.now slice start.0 }
+        ensures scanned { SliceScanned self.old.block.voxels.now scan.now slice start.0 (progress self.old) (progress self.new) }
         ensures same_call { SameCall self.old self.new }
     {
         let span = scan.rows;
@@ -194,8 +205,8 @@ impl<'a> Mesher<'a> {
     // Scans all slices, low to high.
     fn scan_slices(&mut self, scan: &FaceScan, start: VoxelIndex)
         requires room_for { RoomFor (face_tests scan.now) (progress self.old) }
-        requires slices_scan { SlicesScan (length self.old.voxels.now) (length self.old.visited.now) scan.now start.0 }
-        ensures scanned { SlicesScanned self.old.voxels.now scan.now start.0 (progress self.old) (progress self.new) }
+        requires slices_scan { SlicesScan (length self.old.block.voxels.now) (length self.old.visited.now) scan.now start.0 }
+        ensures scanned { SlicesScanned self.old.block.voxels.now scan.now start.0 (progress self.old) (progress self.new) }
         ensures same_call { SameCall self.old self.new }
     {
         let span = scan.slices;
@@ -206,22 +217,17 @@ impl<'a> Mesher<'a> {
     }
 
     // The group of a face: clears the marks, one a voxel of the shape, and scans the interior.
-    fn greedy_quads_for_face(
-        &mut self,
-        marks: usize,
-        voxels_shape: UVec3,
-        interior: Extent,
-        face: OrientedBlockFace,
-    )
-        requires marks_value { marks ≡ shape.size voxels_shape }
+    fn greedy_quads_for_face(&mut self, face: OrientedBlockFace)
         requires room_for { RoomFor (most_voxels * voxel_tests) (progress self.old) }
-        requires accepted { Accepted (length self.old.voxels.now) (length self.old.visited.now) voxels_shape interior }
-        ensures meshed { FaceMeshed self.old.voxels.now voxels_shape interior face (progress self.old) (progress self.new) }
+        requires size_value { self.old.block.size ≡ shape.size self.old.block.voxels_shape }
+        requires accepted { Accepted (length self.old.block.voxels.now) (length self.old.visited.now) self.old.block.voxels_shape self.old.block.interior }
+        ensures meshed { FaceMeshed self.old.block.voxels.now self.old.block.voxels_shape self.old.block.interior face (progress self.old) (progress self.new) }
         ensures same_call { SameCall self.old self.new }
     {
-        visited::clear(self.visited, marks);
-        let scan = FaceScan::new(voxels_shape, interior, face);
-        let start = VoxelIndex::linearize(voxels_shape, interior.minimum);
+        let block = self.block;
+        visited::clear(self.visited, block.size);
+        let scan = FaceScan::new(block.voxels_shape, block.interior, face);
+        let start = VoxelIndex::linearize(block.voxels_shape, block.interior.minimum);
         self.scan_slices(&scan, start);
     }
 }
@@ -236,20 +242,17 @@ struct Meshed {
 
 // The groups of all faces, one after another.
 fn mesh_faces(
-    voxels: &[u16],
+    block: Block,
+    faces: [OrientedBlockFace; 6],
     visited: &mut [u8],
     out: &mut [u32],
-    size: usize,
-    voxels_shape: UVec3,
-    interior: Extent,
-    faces: [OrientedBlockFace; 6],
 ) -> Meshed
-    requires size_value { size ≡ shape.size voxels_shape }
-    requires accepted { Accepted (length voxels.now) (length visited.old) voxels_shape interior }
-    ensures { FacesMeshed voxels.now voxels_shape interior faces visited.old out.old visited.new out.new result }
+    requires size_value { block.size ≡ shape.size block.voxels_shape }
+    requires accepted { Accepted (length block.voxels.now) (length visited.old) block.voxels_shape block.interior }
+    ensures { FacesMeshed block.entry.voxels.now block.entry.voxels_shape block.entry.interior faces visited.old out.old visited.new out.new result }
 {
     let mut mesher = Mesher {
-        voxels,
+        block,
         visited,
         out,
         listed: 0,
@@ -258,7 +261,7 @@ fn mesh_faces(
     let mut counts = [0u64; 6];
     for (k, face) in faces.iter().enumerate() {
         let before = mesher.listed;
-        mesher.greedy_quads_for_face(size, voxels_shape, interior, *face);
+        mesher.greedy_quads_for_face(*face);
         counts[k] = (mesher.listed - before) as u64;
     }
     Meshed {
@@ -283,7 +286,13 @@ fn mesh(
     ensures { outcome result visited.new out.new ≡ greedy_from (accepted tt) size interior (shape.field voxels_shape voxels.now) faces visited.old out.old }
 {
     let capacity = out.len() / QUAD_NUMBERS;
-    let meshed = mesh_faces(voxels, visited, out, size, voxels_shape, interior, faces);
+    let block = Block {
+        voxels,
+        voxels_shape,
+        size,
+        interior,
+    };
+    let meshed = mesh_faces(block, faces, visited, out);
     visited::clear(visited, size);
     let counts = meshed.counts;
     let mesh = listing::answered(meshed.listed, capacity, counts);
