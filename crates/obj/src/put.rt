@@ -28,9 +28,10 @@ impl<'a> Page<'a> {
         requires { Room new.now self.old }
         ensures { Wrote new.now self.old self.new }
     {
-        let end = self.at + new.len();
-        self.out[self.at..end].copy_from_slice(new);
-        self.at = end;
+        for byte in new {
+            self.out[self.at] = *byte;
+            self.at += 1;
+        }
     }
 
     // A number, and a byte after it.
