@@ -6,12 +6,14 @@
 #![tactic(auto)]
 
 mod measure;
+mod mesh;
 mod put;
 
 ghost use Rattle.std.specs.Prelude.{◌≡◌};
 ghost use Rattle.writing.specs.Written.{outcome};
 ghost use Rattle.obj.specs.Obj.{write_obj};
 
+use crate::mesh::Mesh;
 use geometry::face::OrientedBlockFace;
 use writing::handed::QuadsAnswer;
 use writing::written::WriteAnswer;
@@ -31,10 +33,16 @@ pub fn write_obj(
     match handed::check_listed(faces, counts, quads) {
         QuadsAnswer::Refused(number, place) => written::refused(number, place),
         QuadsAnswer::Quads(all) => {
-            if !measure::fits(faces, counts, quads, all, out.len()) {
+            let mesh = Mesh {
+                faces,
+                counts,
+                quads,
+                all,
+            };
+            if !measure::fits(&mesh, out.len()) {
                 return written::refused(written::SHORT_OUTPUT, 0);
             }
-            let end = put::mesh(faces, counts, quads, out);
+            let end = put::mesh(&mesh, out);
             written::accepted(end as u64)
         }
     }

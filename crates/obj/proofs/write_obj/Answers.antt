@@ -51,14 +51,14 @@ summed c =
 fit : (c : After-fits) → {b : Bool} → c.fits.result ≡ b → let a = c.args in leb (length (obj_text a.faces a.counts a.quads.now)) (length a.out.now) ≡ b
 fit c e = sym c.fits.ensures ∙ e
 
-pub fits-requires : goal.fits-requires
-fits-requires c = record { quads_value = passed (goal.at.fits-requires c).In-Quads; all_value = summed (goal.at.fits-requires c).In-Quads }
+pub invariant_of-mesh : goal.invariant_of-mesh
+invariant_of-mesh c = record { passed = passed (goal.at.invariant_of-mesh c).In-Quads; summed = summed (goal.at.invariant_of-mesh c).In-Quads }
 
 pub returns-then-not-fits : goal.returns-then-not-fits
 returns-then-not-fits c = short _ _ _ _ c.refused-then-not-fits.ensures (passed (goal.at.returns-then-not-fits c).In-Quads) (leb-false _ _ (fit (goal.at.returns-then-not-fits c).After-fits c.if-not-fits.true))
 
 pub mesh-end-requires : goal.mesh-end-requires
-mesh-end-requires c = record { quads_value = passed (goal.at.mesh-end-requires c).In-Quads; quads_in_bounds = leb-true _ _ (fit (goal.at.mesh-end-requires c).After-fits c.if-not-fits.false) }
+mesh-end-requires c = leb-true _ _ (fit (goal.at.mesh-end-requires c).After-fits c.if-not-fits.false)
 
 pub returns-in-Refused : goal.returns-in-Refused
 returns-in-Refused c =

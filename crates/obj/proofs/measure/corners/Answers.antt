@@ -10,8 +10,9 @@ use Rattle.obj.proofs.measure.corners.Goals as goal
 
 pub returns-in-Corners : goal.returns-in-Corners
 returns-in-Corners c =
-    let is = corners_are c.args.face c.args.quad c.requires c.quad_corners.ensures (ap corners_meaning c.in-Corners.is) in
-    rw (c.places-first.ensures.value, c.places-last.ensures.value) (ap (λ (m : QuadCorners). 20 + 2 * (point_places m.minu_minv + point_places m.maxu_maxv)) is ∙ sym (corners_long c.args.face c.args.quad))
+    let q = c.args.quad in
+    let is = corners_are q.face q.quad q.drawable c.quad_corners.ensures (ap corners_meaning c.in-Corners.is) in
+    rw (c.places-first.ensures.value, c.places-last.ensures.value) (ap (λ (m : QuadCorners). 20 + 2 * (point_places m.minu_minv + point_places m.maxu_maxv)) is ∙ sym (corners_long q.face q.quad))
 
 pub returns-in-Refused : goal.returns-in-Refused
-returns-in-Refused c = absurd (corners_given _ _ c.requires c.quad_corners.ensures (ap corners_meaning c.in-Refused.is))
+returns-in-Refused c = absurd (corners_given _ _ c.args.quad.drawable c.quad_corners.ensures (ap corners_meaning c.in-Refused.is))

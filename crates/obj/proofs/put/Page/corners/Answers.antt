@@ -10,12 +10,12 @@ use Rattle.obj.proofs.put.Page.corners.Goals as goal
 use Rattle.obj.proofs.put.Page.corners.Goals.{In-Corners, After-corner, After-corner-in-Corners}
 
 -- What geometry gave are the quad's corners,
-is : (c : In-Corners) → c.in-Corners.corners ≡ corners c.args.face c.args.quad
-is c = corners_are _ _ c.requires.drawable c.quad_corners.ensures (ap corners_meaning c.in-Corners.is)
+is : (c : In-Corners) → c.in-Corners.corners ≡ corners c.args.quad.face c.args.quad.quad
+is c = corners_are _ _ c.args.quad.drawable c.quad_corners.ensures (ap corners_meaning c.in-Corners.is)
 
 -- and there is room for their four lines,
 room : (c : In-Corners) → Room (four_lines c.in-Corners.corners) c.args.self.now
-room c = room_as (corners_lines _ _ (is c)) c.requires.room
+room c = room_as (corners_lines _ _ (is c)) c.requires
 
 -- after the first for the others,
 after_first : (c : After-corner) → Room (from_second c.in-Corners.corners) c.corner.new.self
@@ -41,4 +41,4 @@ pub returns-in-Corners : goal.returns-in-Corners
 returns-in-Corners c = wrote_as (sym (corners_lines _ _ (is (goal.at.returns-in-Corners c).In-Corners))) (wrote_both c.corner.ensures (wrote_both c.corner-in-Corners.ensures (wrote_both c.corner-in-Corners-2.ensures c.corner-in-Corners-3.ensures)))
 
 pub returns-in-Refused : goal.returns-in-Refused
-returns-in-Refused c = absurd (corners_given _ _ c.requires.drawable c.quad_corners.ensures (ap corners_meaning c.in-Refused.is))
+returns-in-Refused c = absurd (corners_given _ _ c.args.quad.drawable c.quad_corners.ensures (ap corners_meaning c.in-Refused.is))
