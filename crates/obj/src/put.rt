@@ -22,7 +22,7 @@ struct Page<'a> {
     at: usize,
 }
 
-impl<'a> Page<'a> {
+impl Page<'_> {
     // Some bytes as they are.
     fn bytes(&mut self, new: &[u8])
         requires { Room new.now self.old }
@@ -39,9 +39,9 @@ impl<'a> Page<'a> {
         requires { Room (ended n end) self.old }
         ensures { Wrote (ended n end) self.old self.new }
     {
-        self.at += digits::spell(n, &mut self.out[self.at..]);
-        self.out[self.at] = end;
-        self.at += 1;
+        let next = self.at + digits::spell(n, &mut self.out[self.at..]);
+        self.out[next] = end;
+        self.at = next + 1;
     }
 
     // A line: its start, and three numbers.

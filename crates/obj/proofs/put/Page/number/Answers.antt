@@ -30,14 +30,14 @@ spelled c =
 room : (c : After-spell) → let p = c.args.self.now in p.at + c.spell.result + 1 ≤ length p.out.now
 room c = let here = spelled c in omega (arith, (room_second (c.args.end ∷ []) c.requires here).fits, wrote_length here)
 
+pub overflow_add-next : goal.overflow_add-next
+overflow_add-next c = record { fits = omega (arith, room (goal.at.overflow_add-next c).After-spell) }
+
+pub bounds-self-next : goal.bounds-self-next
+bounds-self-next c = let here = (goal.at.bounds-self-next c).After-spell in omega (arith, (room_second (c.args.end ∷ []) c.requires (spelled here)).fits)
+
 pub overflow_add-self : goal.overflow_add-self
 overflow_add-self c = record { fits = omega (arith, room (goal.at.overflow_add-self c).After-spell) }
-
-pub bounds-self-self : goal.bounds-self-self
-bounds-self-self c = let here = (goal.at.bounds-self-self c).After-spell in omega (arith, (room_second (c.args.end ∷ []) c.requires (spelled here)).fits)
-
-pub overflow_add-self-2 : goal.overflow_add-self-2
-overflow_add-self-2 c = record { fits = omega (arith, room (goal.at.overflow_add-self-2 c).After-spell) }
 
 pub returns : goal.returns
 returns c = wrote_both (spelled (goal.at.returns c).After-spell) (wrote_byte _ _)
