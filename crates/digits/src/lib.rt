@@ -6,14 +6,38 @@ mod lots;
 ghost use Rattle.std.specs.Prelude.{◌≡◌, length};
 ghost use Rattle.digits.specs.Decimal.{digits, part, spelt, spelling};
 
-// How many digits a number has: one more than its decimal logarithm, and 0 has one too.
+// How many digits a number has. Small numbers are the usual ones, and are told first.
 pub fn places(n: u32) -> usize
     ensures { result ≡ length (digits n) }
 {
-    match n.checked_ilog10() {
-        Some(log) => log as usize + 1,
-        None => 1,
+    if n < 10 {
+        return 1;
     }
+    if n < 100 {
+        return 2;
+    }
+    if n < 1000 {
+        return 3;
+    }
+    if n < 10000 {
+        return 4;
+    }
+    if n < 100000 {
+        return 5;
+    }
+    if n < 1000000 {
+        return 6;
+    }
+    if n < 10000000 {
+        return 7;
+    }
+    if n < 100000000 {
+        return 8;
+    }
+    if n < 1000000000 {
+        return 9;
+    }
+    10
 }
 
 // What `spell` does, in bytes that may be too few: the digits are counted, and then written from the

@@ -8,10 +8,10 @@ use Rattle.obj.proofs.measure.triangles.Goals.{After-places-d}
 -- None of the four counts is more.
 small : (c : After-places-d) → (c.places-a.result ≤ 10) × (c.places-b.result ≤ 10) × (c.places-c.result ≤ 10) × (c.places-d.result ≤ 10)
 small c = (
-  rw c.places-a.ensures ((decimal_holds _).few (omega (arith, c.requires))),
-  rw c.places-b.ensures ((decimal_holds _).few (omega (arith, c.requires))),
-  rw c.places-c.ensures ((decimal_holds _).few (omega (arith, c.requires))),
-  rw c.places-d.ensures ((decimal_holds _).few (omega (arith, c.requires))),
+  rw c.places-a.ensures ((decimal_holds _).few (omega (arith, c.args.quad.few))),
+  rw c.places-b.ensures ((decimal_holds _).few (omega (arith, c.args.quad.few))),
+  rw c.places-c.ensures ((decimal_holds _).few (omega (arith, c.args.quad.few))),
+  rw c.places-d.ensures ((decimal_holds _).few (omega (arith, c.args.quad.few))),
 )
 
 pub overflow_add-result : goal.overflow_add-result
