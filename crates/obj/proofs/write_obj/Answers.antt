@@ -57,9 +57,6 @@ invariant_of-mesh c = record { passed = passed (goal.at.invariant_of-mesh c).In-
 pub returns-then-not-fits : goal.returns-then-not-fits
 returns-then-not-fits c = short _ _ _ _ c.refused-then-not-fits.ensures (passed (goal.at.returns-then-not-fits c).In-Quads) (leb-false _ _ (fit (goal.at.returns-then-not-fits c).After-fits c.if-not-fits.true))
 
-pub mesh-end-requires : goal.mesh-end-requires
-mesh-end-requires c = leb-true _ _ (fit (goal.at.mesh-end-requires c).After-fits c.if-not-fits.false)
-
 pub returns-in-Refused : goal.returns-in-Refused
 returns-in-Refused c =
     let a = c.args in
