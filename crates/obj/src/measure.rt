@@ -20,6 +20,7 @@ const HEAD: usize = 7;
 const MOST_QUAD: u64 = 138;
 
 // The digits of a point's coordinates.
+#[tactic(auto, using(crate::proofs::Measured::ten_digits))]
 fn places(x: u32, y: u32, z: u32) -> usize
     ensures value { result ≡ point_places (at x y z) }
     ensures upper_bound { result ≤ 30 }
@@ -41,6 +42,7 @@ fn corners(quad: Quad) -> usize
 }
 
 // The two lines of its triangles.
+#[tactic(auto, using(crate::proofs::Measured::ten_digits))]
 fn triangles(quad: Quad) -> usize
     ensures { result ≡ triangles_long quad.number }
 {

@@ -54,9 +54,6 @@ fit c e = sym c.fits.ensures ∙ e
 pub invariant_of-mesh : goal.invariant_of-mesh
 invariant_of-mesh c = record { passed = passed (goal.at.invariant_of-mesh c).In_ok-all; summed = summed (goal.at.invariant_of-mesh c).In_ok-all }
 
-pub mesh-requires : goal.mesh-requires
-mesh-requires c = leb-true _ _ (fit (goal.at.mesh-requires c).After-fits c.if-not-fits.false)
-
 pub returns-in_err-all : goal.returns-in_err-all
 returns-in_err-all c =
     let a = c.args in

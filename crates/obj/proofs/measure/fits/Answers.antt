@@ -1,9 +1,8 @@
 -- `fits` meets its contract: the bound on a text's length decides, or what is measured.
 use Rattle.std.proofs.Common.{rules}
-use mathlib.Core.Path.{◌≡◌, sym, ◌∙◌, ap}
+use mathlib.Core.Path.{◌≡◌, sym, ◌∙◌}
 use Prim.Native.Nat.{◌+◌, ◌*◌, ◌≤◌}
 use native.Mathlib.Omega.{arith}
-use lib.Dec.{leb}
 use lib.ListN.{length}
 use borrow.Author.Tests.{le-leb}
 use Rattle.writing.specs.Handed.{most_quads}
@@ -35,6 +34,3 @@ pub returns-then-most-room : goal.returns-then-most-room
 returns-then-most-room c =
     let m = c.args.mesh.now in
     sym (le-leb (length (obj_text m.faces m.counts m.quads.now)) c.args.room (omega (arith, bound (goal.at.returns-then-most-room c).Start, c.if-most-room.true)))
-
-pub returns : goal.returns
-returns c = ap (λ n. leb n c.args.room) c.mesh.ensures

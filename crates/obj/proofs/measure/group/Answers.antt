@@ -24,12 +24,6 @@ next c =
     let a = c.args in
     measured _ _ (text_next a.quads.now a.face c.loop-k.k (a.first + a.count) c.loop-k-test.true (read (goal.at.After-quad-length c).After-quad_from)) c.quad-length.ensures
 
-pub loop-k-init : goal.loop-k-init
-loop-k-init c =
-    let a = c.args in
-    let all : a.first + a.count - a.first ≡ a.count = omega arith in
-    (rw all c.requires, rw all (omega arith))
-
 pub slice_bounds-quad_from-end : goal.slice_bounds-quad_from-end
 slice_bounds-quad_from-end c = let h : c.loop-k.k * quad_numbers + quad_numbers ≤ length c.args.quads.now = ready_held c.loop-k.invariant.0 c.loop-k-test.true in search rules
 
