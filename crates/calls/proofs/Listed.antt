@@ -1,8 +1,8 @@
 -- Bytes that are written one after another, and the lines of a list.
-use Rattle.std.proofs.Common.{arith, ◌≡◌, ℕ, ◌+◌, ◌<◌, ◌*◌, ◌^◌, Bool, true, false, ◌==◌, nat_eq, codes, Option, Some, None, IfSome, List, [], ◌∷◌, ◌++◌, length, flat_map, get_or, drop, take, map, refl, sym, ap, ◌∙◌, append_assoc, add_comm, drop-cons, add-one, option_map}
+use Rattle.std.proofs.Common.{arith, ◌≡◌, ℕ, ◌<◌, Bool, true, false, ◌==◌, nat_eq, codes, Option, Some, None, IfSome, List, [], ◌∷◌, ◌++◌, length, refl, sym, ap, ◌∙◌, append_assoc, add_comm, option_map}
 use Rattle.std.proofs.lemmas.List.{append-nil}
 use native.Mathlib.Numerals.{unary_clauses}
-use Rattle.std.specs.Fmt.{option_append, decimal}
+use Rattle.std.specs.Fmt.{option_append}
 use Rattle.std.specs.List.{starts_with}
 use Rattle.std.specs.Io.KnownBytes.{Appends}
 use Rattle.calls.specs.Lines.{before, after, letter, given, Outcome, lines_from, line_written, all_written, written}

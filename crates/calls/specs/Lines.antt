@@ -1,5 +1,5 @@
 -- The lines of a list, and what is written of each.
-use Rattle.std.specs.Prelude.{ℕ, Bool, true, false, ◌==◌, nat_eq, codes, if◌then◌else◌, Option, Some, None, option_map, List, [], ◌∷◌, ◌++◌, drop, slice_get, slice_index}
+use Rattle.std.specs.Prelude.{ℕ, Bool, true, false, ◌==◌, nat_eq, codes, if◌then◌else◌, Option, Some, option_map, List, [], ◌∷◌, ◌++◌, drop, slice_get}
 use Rattle.std.specs.List.{before_first, after_first, starts_with}
 use Rattle.std.specs.Fmt.{option_append}
 

@@ -4,7 +4,7 @@
 // what comes out of the line's call.
 #![tactic(auto)]
 
-ghost use Rattle.std.specs.Prelude.{◌≡◌, ℕ, List, Option, None, IfSome, IfOk, OnOk, take};
+ghost use Rattle.std.specs.Prelude.{◌≡◌, ℕ, List, Option, None, IfSome, IfOk, OnOk, take, length};
 ghost use Rattle.std.specs.Io.KnownBytes.{Appends};
 ghost use Rattle.calls.specs.declared.given.Notation.{Notation};
 ghost use Rattle.calls.specs.Lines.{letter, given, after, line_written, written};
@@ -14,19 +14,26 @@ pub mod show;
 mod text;
 
 use given::{Given, Notation};
-use std::alloc::Global;
 use std::io::{self, Read, Write};
 
 // The most bytes of an input that are its list: what comes after them is not read.
-const LONGEST: u64 = 65536;
+pub const LONGEST: usize = 65536;
 
-// Reads the list of calls.
-pub fn read<R: Read + Drop>(alloc: Global, input: R) -> io::Result<Vec<u8>>
-    ensures { IfOk result (λ list. IfSome (R.remaining input) (λ bytes. list.items ≡ take 65536 bytes)) }
+// Reads the list of calls into lent bytes, as much of the input as they hold, and answers the part of
+// them that it filled.
+pub fn read<'a, R: Read>(input: &mut R, room: &'a mut [u8]) -> io::Result<&'a [u8]>
+    ensures { IfOk result (λ list. IfSome (R.remaining input.old) (λ bytes. list.now ≡ take (length room.old) bytes)) }
 {
-    let mut list = Vec::new(alloc);
-    input.take(LONGEST).read_to_end(&mut list)?;
-    Ok(list)
+    // Not by `read_to_end`, which needs the heap: the programs allocate nothing (docs/DECISIONS.md 73).
+    let mut got = 0;
+    while got < room.len() {
+        let n = input.read(&mut room[got..])?;
+        if n == 0 {
+            break;
+        }
+        got += n;
+    }
+    Ok(&room[..got])
 }
 
 // What a line calls: the first letter of its name, and what it is given. The name stands after the

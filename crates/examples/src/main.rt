@@ -14,6 +14,7 @@ use calls::given::Notation;
 use std::io;
 
 fn main(rt: HostRuntime) -> io::Result<()> {
-    let list = calls::read(rt.alloc(), rt.reader())?;
-    calls::run(&mut io::writer(&rt), &list, Notation::Decimal, &Meshers)
+    let mut room = [0; calls::LONGEST];
+    let list = calls::read(&mut rt.reader(), &mut room)?;
+    calls::run(&mut io::writer(&rt), list, Notation::Decimal, &Meshers)
 }

@@ -1,5 +1,5 @@
 -- `line` writes the line and, where it is no comment, what comes out of its call.
-use Rattle.std.proofs.Common.{◌≡◌, sym, ◌∙◌}
+use Rattle.std.proofs.Common.{sym, ◌∙◌}
 use Rattle.calls.proofs.Listed.{comment_written, called_written}
 use Rattle.calls.proofs.line.Goals as goal
 use Rattle.calls.proofs.line.Goals.{then-not-starts_with+in_ok-write_all-2+in_ok-make, else-not-starts_with}

@@ -1,5 +1,5 @@
 -- `run` goes on by `line_then`, and ends where no text is left.
-use Rattle.std.proofs.Common.{arith, rules, ◌≡◌, ◌<◌, length}
+use Rattle.std.proofs.Common.{rules, ◌≡◌, ◌<◌, length}
 use Rattle.calls.proofs.Listed.{line_then, written_end}
 use Rattle.calls.proofs.run.Goals as goal
 

@@ -1,7 +1,5 @@
 -- `Given::permutation` reads a number, and marks one that names no permutation.
-use Rattle.std.proofs.Common.{◌≡◌, sym, ap, ◌∙◌, refl}
-use Rattle.geometry.specs.Axes.{permutations}
-use Rattle.calls.specs.Text.{number}
+use Rattle.std.proofs.Common.{sym}
 use Rattle.calls.proofs.Orders.{named, unnamed}
 use Rattle.calls.proofs.Listed.{appends_none}
 use Rattle.calls.proofs.given.Given.permutation.Goals as goal
