@@ -21,8 +21,8 @@ pub loop-got-preserved : goal.loop-got-preserved
 loop-got-preserved g c = record {
   within = search (rules, places);
   taken =
-    let long : length (take c.loop-got.got c.loop-got.room) ≡ c.loop-got.got = length-take-le c.loop-got.got c.loop-got.room c.loop-got.invariant.within in
-    let read = c.in_ok-n.ensures in
-    rw (taken (take c.loop-got.got c.loop-got.room) c.read.new.buf (post_of c.loop-got.got (length c.loop-got.room - c.loop-got.got) c.loop-got.room) c.loop-got.got c.in_ok-n.n long read.bound.0)
-    (consumes_both _ _ _ _ _ c.loop-got.invariant.taken read.bytes.0)
+      let long : length (take c.loop-got.got c.loop-got.room) ≡ c.loop-got.got = length-take-le c.loop-got.got c.loop-got.room c.loop-got.invariant.within in
+      let read = c.in_ok-n.ensures in
+      rw (taken (take c.loop-got.got c.loop-got.room) c.read.new.buf (post_of c.loop-got.got (length c.loop-got.room - c.loop-got.got) c.loop-got.room) c.loop-got.got c.in_ok-n.n long read.bound.0)
+      (consumes_both _ _ _ _ _ c.loop-got.invariant.taken read.bytes.0);
 }

@@ -6,7 +6,7 @@ use Rattle.calls.proofs.read.Given as goal
 abbrev pub invariant-loop-got : goal.invariant-loop-got
 invariant-loop-got g l = record {
   within : l.got ≤ length l.room;
-  taken : Consumes (g.R.Read.remaining l.fn.input) (g.R.Read.remaining l.input) (take l.got l.room)
+  taken : Consumes (g.R.Read.remaining l.fn.input) (g.R.Read.remaining l.input) (take l.got l.room);
 }
 
 abbrev pub decreases-loop-got : goal.decreases-loop-got
