@@ -5,7 +5,7 @@ ghost use Rattle.calls.specs.Text.{digit, is_digit, begins, unsigned, number};
 ghost use Rattle.calls.specs.Given.{Reads, signed, axis, point, permutation, permutation_mark, face, face_mark};
 
 use crate::{show, text};
-use geometry::axis::{Axis, AxisPermutation, PermutationAnswer};
+use geometry::axis::{Axis, AxisPermutation};
 use geometry::face::OrientedBlockFace;
 use geometry::vector::UVec3;
 use std::io::{self, Write};
@@ -129,9 +129,9 @@ impl Given<'_> {
         ensures mark { OnOk result (Appends (W.contents out.old) (W.contents out.new)
             (permutation_mark self.old.notation self.old.rest.now)) }
     {
-        match AxisPermutation::from_number(self.number()) {
-            PermutationAnswer::Permutation(p) => Ok(p),
-            PermutationAnswer::Refused(_) => {
+        match AxisPermutation::try_from(self.number()) {
+            Ok(p) => Ok(p),
+            Err(_) => {
                 show::unknown(out)?;
                 Ok(AxisPermutation::Xyz)
             }

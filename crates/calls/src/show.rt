@@ -2,10 +2,10 @@
 // quad.
 ghost use Rattle.std.specs.Prelude.{◌∷◌, [], IfSome, OnOk};
 ghost use Rattle.std.specs.Io.KnownBytes.{Appends};
-ghost use Rattle.geometry.specs.Answers.{check_meaning};
+ghost use Rattle.geometry.specs.Answers.{number, meaning};
 ghost use Rattle.calls.specs.Show as shown;
 
-use geometry::refusal::CheckAnswer;
+use geometry::refusal::Refusal;
 use geometry::vector::UVec3;
 use std::fmt::Display;
 use std::io::{self, Write};
@@ -46,18 +46,19 @@ pub fn point<W: Write>(out: &mut W, p: UVec3) -> io::Result<()>
 }
 
 // A refusal and its place.
-pub fn refusal<W: Write>(out: &mut W, n: u32, place: u64) -> io::Result<()>
-    ensures { OnOk result (Appends (W.contents out.old) (W.contents out.new) (shown.refusal n place)) }
+pub fn refusal<W: Write>(out: &mut W, refused: Refusal) -> io::Result<()>
+    ensures { OnOk result (Appends (W.contents out.old) (W.contents out.new)
+        (shown.refusal (number refused.reason) refused.place)) }
 {
-    write!(out, " {n} {place}")
+    write!(out, " {} {}", u32::from(refused.reason), refused.place)
 }
 
 // What a check answers: 0, or a refusal and its place.
-pub fn check<W: Write>(out: &mut W, came: CheckAnswer) -> io::Result<()>
-    ensures { OnOk result (Appends (W.contents out.old) (W.contents out.new) (shown.check (check_meaning came))) }
+pub fn check<W: Write>(out: &mut W, came: Result<(), Refusal>) -> io::Result<()>
+    ensures { OnOk result (Appends (W.contents out.old) (W.contents out.new) (shown.check (meaning came))) }
 {
     match came {
-        CheckAnswer::Passed => number(out, 0),
-        CheckAnswer::Refused(n, place) => refusal(out, n, place),
+        Ok(()) => number(out, 0),
+        Err(refused) => refusal(out, refused),
     }
 }
