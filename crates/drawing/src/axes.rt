@@ -1,8 +1,9 @@
 // Axes, permutations, signed axes and canonical faces. An axis that comes out goes by its unit vector.
 use crate::given::Given;
 use crate::show;
-use geometry::axis::{Axis, AxisPermutation, PermutationAnswer, SignedAxis, SignedAxisAnswer};
+use geometry::axis::{Axis, AxisPermutation, SignedAxis};
 use geometry::face::OrientedBlockFace;
+use geometry::refusal::Refusal;
 use geometry::vector::IVec3;
 use std::io::{self, Write};
 
@@ -19,32 +20,32 @@ fn named(out: &mut impl Write, p: AxisPermutation) -> io::Result<()> {
     unit(out, axes.u)?;
     unit(out, axes.v)?;
     show::sign(out, p.sign())?;
-    show::number(out, p.number())?;
+    show::number(out, u32::from(p))?;
     show::number(out, axes.n.index())?;
     let even = AxisPermutation::even_with_normal_axis(axes.n);
     let odd = AxisPermutation::odd_with_normal_axis(axes.n);
-    show::number(out, even.number())?;
-    show::number(out, odd.number())
+    show::number(out, u32::from(even))?;
+    show::number(out, u32::from(odd))
 }
 
 // A permutation's number.
 pub fn order(out: &mut impl Write, given: &mut Given<'_>) -> io::Result<()> {
-    match AxisPermutation::from_number(given.number()) {
-        PermutationAnswer::Permutation(p) => named(out, p),
-        PermutationAnswer::Refused(n) => show::number(out, n),
+    match AxisPermutation::try_from(given.number()) {
+        Ok(p) => named(out, p),
+        Err(refused) => show::refusal(out, refused),
     }
 }
 
 // A signed axis that came: its sign, its axis, its unit vector and its canonical face; or a refusal.
-fn signed_axis(out: &mut impl Write, came: SignedAxisAnswer) -> io::Result<()> {
+fn signed_axis(out: &mut impl Write, came: Result<SignedAxis, Refusal>) -> io::Result<()> {
     match came {
-        SignedAxisAnswer::Made(a) => {
+        Ok(a) => {
             show::sign(out, a.signum())?;
             unit(out, a.unsigned_axis())?;
             show::direction(out, a.get_unit_vector())?;
             show::face(out, OrientedBlockFace::canonical(a))
         }
-        SignedAxisAnswer::Refused(n) => show::number(out, n),
+        Err(refused) => show::refusal(out, refused),
     }
 }
 

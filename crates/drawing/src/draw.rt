@@ -2,38 +2,39 @@
 use crate::given::{self, Given};
 use crate::show;
 use geometry::face::{
-    Corner, CornersAnswer, FaceAnswer, IndicesAnswer, Normal, NormalsAnswer, OrientedBlockFace,
-    Position, PositionAnswer, PositionsAnswer, SignedNormalAnswer, TexCoordsAnswer, VertexIndex,
+    Corner, Normal, OrientedBlockFace, Position, QuadNormals, QuadPositions, VertexIndex,
 };
 use geometry::quad::{UnorientedQuad, UnorientedUnitQuad};
+use geometry::refusal::Refusal;
+use geometry::vector::IVec3;
 use std::io::{self, Write};
 
 // A face's normals at a quad's four corners.
-fn normals(out: &mut impl Write, came: NormalsAnswer) -> io::Result<()> {
+fn normals(out: &mut impl Write, came: Result<QuadNormals, Refusal>) -> io::Result<()> {
     match came {
-        NormalsAnswer::Normals(q) => {
+        Ok(q) => {
             for Normal { x, y, z } in [q.minu_minv, q.maxu_minv, q.minu_maxv, q.maxu_maxv] {
                 show::floats(out, &[x, y, z])?;
             }
             Ok(())
         }
-        NormalsAnswer::Refused(n) => show::number(out, n),
+        Err(refused) => show::refusal(out, refused),
     }
 }
 
 // The face that a sign and a permutation make.
-fn made(out: &mut impl Write, came: FaceAnswer) -> io::Result<()> {
+fn made(out: &mut impl Write, came: Result<OrientedBlockFace, Refusal>) -> io::Result<()> {
     match came {
-        FaceAnswer::Face(f) => show::face(out, f),
-        FaceAnswer::Refused(n) => show::number(out, n),
+        Ok(f) => show::face(out, f),
+        Err(refused) => show::refusal(out, refused),
     }
 }
 
 // A face's signed normal.
-fn normal(out: &mut impl Write, came: SignedNormalAnswer) -> io::Result<()> {
+fn normal(out: &mut impl Write, came: Result<IVec3, Refusal>) -> io::Result<()> {
     match came {
-        SignedNormalAnswer::SignedNormal(v) => show::direction(out, v),
-        SignedNormalAnswer::Refused(n) => show::number(out, n),
+        Ok(v) => show::direction(out, v),
+        Err(refused) => show::refusal(out, refused),
     }
 }
 
@@ -61,34 +62,34 @@ pub fn corners(out: &mut impl Write, given: &mut Given<'_>) -> io::Result<()> {
     let quad = given::quad(given);
     show::check(out, face.check_quad(quad))?;
     match face.quad_corners(quad) {
-        CornersAnswer::Corners(k) => {
+        Ok(k) => {
             for corner in [k.minu_minv, k.maxu_minv, k.minu_maxv, k.maxu_maxv] {
                 show::point(out, corner)?;
             }
             Ok(())
         }
-        CornersAnswer::Refused(n) => show::number(out, n),
+        Err(refused) => show::refusal(out, refused),
     }
 }
 
 // The position of a corner.
-fn one(out: &mut impl Write, came: PositionAnswer) -> io::Result<()> {
+fn one(out: &mut impl Write, came: Result<Position, Refusal>) -> io::Result<()> {
     match came {
-        PositionAnswer::Position(x, y, z) => show::floats(out, &[x, y, z]),
-        PositionAnswer::Refused(n) => show::number(out, n),
+        Ok(Position { x, y, z }) => show::floats(out, &[x, y, z]),
+        Err(refused) => show::refusal(out, refused),
     }
 }
 
 // The positions of a quad's four corners.
-fn four(out: &mut impl Write, came: PositionsAnswer) -> io::Result<()> {
+fn four(out: &mut impl Write, came: Result<QuadPositions, Refusal>) -> io::Result<()> {
     match came {
-        PositionsAnswer::Positions(p) => {
+        Ok(p) => {
             for Position { x, y, z } in [p.minu_minv, p.maxu_minv, p.minu_maxv, p.maxu_maxv] {
                 show::floats(out, &[x, y, z])?;
             }
             Ok(())
         }
-        PositionsAnswer::Refused(n) => show::number(out, n),
+        Err(refused) => show::refusal(out, refused),
     }
 }
 
@@ -116,13 +117,13 @@ pub fn position(out: &mut impl Write, given: &mut Given<'_>) -> io::Result<()> {
 pub fn indices(out: &mut impl Write, given: &mut Given<'_>) -> io::Result<()> {
     let face = given.face(out)?;
     match face.quad_mesh_indices(VertexIndex(given.number())) {
-        IndicesAnswer::Indices(i) => {
+        Ok(i) => {
             for vertex in [i.0, i.1, i.2, i.3, i.4, i.5] {
                 show::number(out, vertex.0)?;
             }
             Ok(())
         }
-        IndicesAnswer::Refused(n) => show::number(out, n),
+        Err(refused) => show::refusal(out, refused),
     }
 }
 
@@ -133,12 +134,12 @@ pub fn textures(out: &mut impl Write, given: &mut Given<'_>) -> io::Result<()> {
     let axis = given.axis();
     let flip = given.number() != 0;
     match face.tex_coords(axis, flip, quad) {
-        TexCoordsAnswer::TexCoords(t) => {
+        Ok(t) => {
             for pair in [t.minu_minv, t.maxu_minv, t.minu_maxv, t.maxu_maxv] {
                 show::floats(out, &[pair.u, pair.v])?;
             }
             Ok(())
         }
-        TexCoordsAnswer::Refused(n) => show::number(out, n),
+        Err(refused) => show::refusal(out, refused),
     }
 }

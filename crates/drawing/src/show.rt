@@ -1,6 +1,7 @@
 // Writing what comes out of a call of the drawing code, besides what crate calls writes.
 pub use calls::show::{check, number, numbers, point, unknown};
 use geometry::face::OrientedBlockFace;
+use geometry::refusal::Refusal;
 use geometry::vector::IVec3;
 use std::io::{self, Write};
 
@@ -22,7 +23,12 @@ pub fn direction(out: &mut impl Write, v: IVec3) -> io::Result<()> {
 // A face: its sign and its permutation's number.
 pub fn face(out: &mut impl Write, f: OrientedBlockFace) -> io::Result<()> {
     sign(out, f.n_sign)?;
-    number(out, f.permutation.number())
+    number(out, u32::from(f.permutation))
+}
+
+// A refusal's number.
+pub fn refusal(out: &mut impl Write, refused: Refusal) -> io::Result<()> {
+    number(out, u32::from(refused.reason))
 }
 
 // f32 numbers, each by its bits: eight digits of base 16 after an x. A NaN, which no call gives, is

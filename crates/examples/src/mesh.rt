@@ -4,11 +4,11 @@ ghost use Rattle.std.specs.Prelude.{◌<◌};
 use crate::given::{self, Given};
 use calls::show;
 use geometry::face::OrientedBlockFace;
+use geometry::refusal::Refusal;
 use geometry::vector::UVec3;
-use listing::MeshAnswer;
 use std::array;
 use std::io::{self, Write};
-use voxels::bounds::{self, EntryAnswer};
+use voxels::bounds::{self, Entry};
 
 // What a mesher is given beside its buffers.
 #[derive(Clone, Copy)]
@@ -36,21 +36,25 @@ fn what_is_meshed(out: &mut impl Write, given: &mut Given<'_>) -> io::Result<Mes
 
 // What an entry answers: how many voxels the shape has, and where the interior starts and ends; or
 // a refusal and its place.
-fn entry(out: &mut impl Write, came: EntryAnswer) -> io::Result<()> {
+fn entry(out: &mut impl Write, came: Result<Entry, Refusal>) -> io::Result<()> {
     match came {
-        EntryAnswer::Entered(e) => {
+        Ok(e) => {
             show::number(out, e.size)?;
             show::point(out, e.interior.minimum)?;
             show::point(out, e.interior.bound)
         }
-        EntryAnswer::Refused(n, place) => show::refusal(out, n, place),
+        Err(refused) => show::refusal(out, refused),
     }
 }
 
-// What a mesher answers: its refusal and place, and its six counts.
-fn answer(out: &mut impl Write, came: MeshAnswer) -> io::Result<()> {
-    show::refusal(out, came.refusal, came.place)?;
-    for count in came.counts {
+// What a mesher answers: its refusal and place, which are 0 where it refuses nothing, and its six
+// counts, which are 0 where it refuses.
+fn answer(out: &mut impl Write, came: Result<[u64; 6], Refusal>) -> io::Result<()> {
+    match came {
+        Ok(_) => write!(out, " 0 0")?,
+        Err(refused) => show::refusal(out, refused)?,
+    }
+    for count in came.unwrap_or([0; 6]) {
         show::number(out, count)?;
     }
     Ok(())
@@ -121,8 +125,8 @@ pub fn greedy<W: Write>(
         bounds::enter_greedy(voxels, m.shape, m.min, m.max, m.faces, lent),
     )?;
     let came = greedy::greedy_quads(voxels, m.shape, m.min, m.max, m.faces, visited, listed);
-    answer(out, came.mesh)?;
-    show::number(out, came.tests)?;
+    answer(out, came.map(|mesh| mesh.counts))?;
+    show::number(out, came.map_or(0, |mesh| mesh.tests))?;
     show::number(out, cleared(visited).unwrap_or(4294967295))?;
     output(out, listed, 5)
 }
