@@ -141,8 +141,8 @@ digits_at_least (suc k) n h =
     rw (length_more n (omega (arith, one-le-pow k 10 (omega arith)))) (omega arith)
 
 -- So many, then, between two powers of ten.
-pub digits_between : (k n : ℕ) → 10 ^ k ≤ n → n < 10 * 10 ^ k → k + 1 ≡ length (digits n)
-digits_between k n least most = omega (arith, digits_at_least k n least, digits_at_most k n (omega (arith, pow-suc 10 k)))
+pub digits_between : (k n : ℕ) → 10 ^ k ≤ n → n < 10 ^ suc k → suc k ≡ length (digits n)
+digits_between k n least most = omega (arith, digits_at_least k n least, digits_at_most k n most)
 
 -- ---- no other numeral
 

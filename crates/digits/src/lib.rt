@@ -6,14 +6,40 @@ mod lots;
 ghost use Rattle.std.specs.Prelude.{◌≡◌, length};
 ghost use Rattle.digits.specs.Decimal.{digits, part, spelt, spelling};
 
-// How many digits a number has: one more than its decimal logarithm, and 0 has one too.
+// How many digits a number has. Small numbers are the usual ones, and are told first. To measure a mesh of
+// such (bench/run, sphere, one byte short) a `match` of ranges, which is tested from its middle, takes 7 %
+// more instructions, and the library's logarithm 26 % more.
 pub fn places(n: u32) -> usize
     ensures { result ≡ length (digits n) }
 {
-    match n.checked_ilog10() {
-        Some(log) => log as usize + 1,
-        None => 1,
+    if n < 10 {
+        return 1;
     }
+    if n < 100 {
+        return 2;
+    }
+    if n < 1000 {
+        return 3;
+    }
+    if n < 10000 {
+        return 4;
+    }
+    if n < 100000 {
+        return 5;
+    }
+    if n < 1000000 {
+        return 6;
+    }
+    if n < 10000000 {
+        return 7;
+    }
+    if n < 100000000 {
+        return 8;
+    }
+    if n < 1000000000 {
+        return 9;
+    }
+    10
 }
 
 // What `spell` does, in bytes that may be too few: the digits are counted, and then written from the
@@ -36,6 +62,7 @@ fn tight(n: u32, out: &mut [u8]) -> usize
 // Writes a number's digits at the start of the scratch and answers how many there are. Where they do
 // not fit it answers 0, and the scratch is as it was. Any number fits into ten bytes, and there nothing
 // is counted first; small numbers are told first again.
+#[tactic(auto, using(crate::proofs::InLots::spelled_set))]
 pub fn spell(n: u32, scratch: &mut [u8]) -> usize
     ensures { spelt result scratch.new ≡ spelling n scratch.old }
 {

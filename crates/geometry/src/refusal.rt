@@ -7,7 +7,7 @@ ghost use Rattle.geometry.specs.Answers.{number, meaning};
 
 // Why a call refuses. The numbers are document 01's; 15, 16 and 24 are document 02's, and 17 is ours
 // (docs/DECISIONS.md).
-#[derive(Clone, Copy, PartialEq, Eq)]
+#[derive(Clone, Copy, Debug, PartialEq, Eq)]
 pub enum Reason {
     // An axis of the shape is 0 or above `LARGEST_AXIS`.
     Shape = 1,
@@ -60,7 +60,7 @@ impl From<Reason> for u32 {
 }
 
 // A refusal: its reason, and the place that it speaks of. Geometry's own have place 0.
-#[derive(Clone, Copy, PartialEq, Eq)]
+#[derive(Clone, Copy, Debug, PartialEq, Eq)]
 pub struct Refusal {
     pub reason: Reason,
     pub place: u64,

@@ -1,14 +1,13 @@
 -- What geometry's calls give of a quad that can be drawn: its corners and its vertex numbers, and no refusal.
-use mathlib.Core.Path.{◌≡◌, refl, sym, ◌∙◌}
+use mathlib.Core.Path.{◌≡◌, ◌∙◌}
 use Prim.Native.Nat.{ℕ, ◌*◌, ◌<◌}
 use native.Mathlib.Omega.{arith}
 use Rattle.std.specs.declared.result.Result.{Result}
-use Rattle.std.specs.declared.result.Result.TheVariants.{Ok, Err}
+use Rattle.std.specs.declared.result.Result.TheVariants.{Ok}
 use Rattle.geometry.specs.declared.quad.UnorientedQuad.{UnorientedQuad}
 use Rattle.geometry.specs.declared.face.OrientedBlockFace.{OrientedBlockFace}
 use Rattle.geometry.specs.declared.face.QuadIndices.{QuadIndices}
 use Rattle.geometry.specs.declared.refusal.Refusal.{Refusal}
-use Rattle.geometry.specs.Refusal.{accepted}
 use Rattle.geometry.specs.Answers.{meaning}
 use Rattle.geometry.specs.Corners.{QuadCorners, corners, quad_corners}
 use Rattle.geometry.specs.Vertices.{vertex, quad_indices}

@@ -1,10 +1,11 @@
 -- Bytes put into an output one after another: two lots are one, and what is written and what is left are the whole. What every method that writes has to show is said by these.
-use mathlib.Core.List.{List, [], ◌++◌, append_assoc, append-nil}
+use mathlib.Core.List.{List, [], ◌∷◌, ◌++◌, append_assoc, append-nil}
 use mathlib.Core.Path.{◌≡◌, refl, sym, ◌∙◌, ap}
 use Prim.Native.Nat.{ℕ, ◌+◌, ◌≤◌}
 use native.Mathlib.Nat.{add-zero}
 use native.Mathlib.Omega.{arith}
-use lib.ListN.{length, length-append}
+use borrow.Rule.Slice.Mut.{set_vals}
+use lib.ListN.{length, set, length-append}
 use Rattle.listing.specs.Listing.{overwritten}
 use Rattle.listing.specs.Pushed.{set_all}
 use Rattle.listing.proofs.Pushed.{set_all_after, set_all_append, set_all_length}
@@ -21,6 +22,11 @@ wrote_length {new} {p} w = ap length w.bytes ∙ set_all_length new p.out.now p.
 wrote_none : (p : Page) → Wrote [] p p
 unfolding set_all
 wrote_none p = record { bytes = refl; at = sym (add-zero p.at); same = refl }
+
+-- One byte.
+pub wrote_byte : (p : Page) (byte : ℕ) → Wrote (byte ∷ []) p (record { out = set_vals (set p.out.now p.at byte) p.out; at = p.at + 1 })
+unfolding set_all
+wrote_byte p byte = record { bytes = refl; at = refl; same = refl }
 
 -- Two lots, one after the other, are one.
 pub wrote_both : {a b : List ℕ} {p q r : Page} → Wrote a p q → Wrote b q r → Wrote (a ++ b) p r

@@ -6,6 +6,7 @@
 #![tactic(auto)]
 
 mod measure;
+mod mesh;
 mod put;
 
 ghost use Rattle.std.specs.Prelude.{◌≡◌};
@@ -13,6 +14,7 @@ ghost use Rattle.geometry.specs.Answers.{meaning};
 ghost use Rattle.writing.specs.Written.{write_answer, outcome};
 ghost use Rattle.obj.specs.Obj.{write_obj};
 
+use crate::mesh::Mesh;
 use geometry::face::OrientedBlockFace;
 use geometry::refusal::{Reason, Refusal};
 use writing::handed;
@@ -29,8 +31,14 @@ pub fn write_obj(
     ensures { outcome (write_answer (meaning result)) out.new ≡ write_obj faces counts quads.now out.old }
 {
     let all = handed::check_listed(faces, counts, quads)?;
-    if !measure::fits(faces, counts, quads, all, out.len()) {
+    let mesh = Mesh {
+        faces,
+        counts,
+        quads,
+        all,
+    };
+    if !measure::fits(&mesh, out.len()) {
         return Err(Reason::ShortOutput.at(0));
     }
-    Ok(put::mesh(faces, counts, quads, out))
+    Ok(put::mesh(&mesh, out))
 }

@@ -9,8 +9,8 @@ ghost use Rattle.obj.specs.Text.{corner_line, triangle_line, corner_lines, trian
 ghost use Rattle.obj.specs.Obj.{obj_text};
 ghost use Rattle.obj.specs.Page.{Wrote, Room, ended, line_of, on, Drawable, GroupReady, group_text};
 
+use crate::mesh::{Mesh, Quad};
 use geometry::face::{OrientedBlockFace, VertexIndex};
-use geometry::quad::UnorientedQuad;
 use geometry::vector::UVec3;
 use greedy::QUAD_NUMBERS;
 use writing::handed;
@@ -22,15 +22,17 @@ struct Page<'a> {
     at: usize,
 }
 
-impl<'a> Page<'a> {
-    // Some bytes as they are.
+impl Page<'_> {
+    // Some bytes as they are. The library's copy takes 6 % more instructions for a whole text: it asks at each
+    // line whether the bytes overlap.
     fn bytes(&mut self, new: &[u8])
         requires { Room new.now self.old }
         ensures { Wrote new.now self.old self.new }
     {
-        let end = self.at + new.len();
-        self.out[self.at..end].copy_from_slice(new);
-        self.at = end;
+        for byte in new {
+            self.out[self.at] = *byte;
+            self.at += 1;
+        }
     }
 
     // A number, and a byte after it.
@@ -38,9 +40,9 @@ impl<'a> Page<'a> {
         requires { Room (ended n end) self.old }
         ensures { Wrote (ended n end) self.old self.new }
     {
-        self.at += digits::spell(n, &mut self.out[self.at..]);
-        self.out[self.at] = end;
-        self.at += 1;
+        let next = self.at + digits::spell(n, &mut self.out[self.at..]);
+        self.out[next] = end;
+        self.at = next + 1;
     }
 
     // A line: its start, and three numbers.
@@ -72,39 +74,37 @@ impl<'a> Page<'a> {
     }
 
     // The lines of a quad's corners.
-    fn corners(&mut self, face: OrientedBlockFace, quad: UnorientedQuad)
-        requires drawable { Drawable face quad }
-        requires room { Room (bytes_of (corner_lines (on face quad))) self.old }
-        ensures { Wrote (bytes_of (corner_lines (on face quad))) self.old self.new }
+    fn corners(&mut self, quad: Quad)
+        requires { Room (bytes_of (corner_lines (on quad.face quad.quad))) self.old }
+        ensures { Wrote (bytes_of (corner_lines (on quad.face quad.quad))) self.old self.new }
     {
-        let corners = face.quad_corners(quad).unwrap();
+        let corners = quad.face.quad_corners(quad.quad).unwrap();
         self.corner(corners.minu_minv);
         self.corner(corners.maxu_minv);
         self.corner(corners.minu_maxv);
         self.corner(corners.maxu_maxv);
     }
 
-    // The lines of its triangles, where it is the quad of this number.
-    fn triangles(&mut self, face: OrientedBlockFace, quad: UnorientedQuad, k: u32)
-        requires drawable { Drawable face quad }
-        requires k_lt_most_quads { k < most_quads }
-        requires room { Room (bytes_of (triangle_lines k (on face quad))) self.old }
-        ensures { Wrote (bytes_of (triangle_lines k (on face quad))) self.old self.new }
+    // The lines of its triangles.
+    fn triangles(&mut self, quad: Quad)
+        requires { Room (bytes_of (triangle_lines quad.number (on quad.face quad.quad))) self.old }
+        ensures { Wrote (bytes_of (triangle_lines quad.number (on quad.face quad.quad))) self.old self.new }
     {
-        let i = face.quad_mesh_indices(VertexIndex(4 * k)).unwrap();
+        let i = quad
+            .face
+            .quad_mesh_indices(VertexIndex(4 * quad.number))
+            .unwrap();
         self.triangle(i.0, i.1, i.2);
         self.triangle(i.3, i.4, i.5);
     }
 
     // The six lines of a quad.
-    fn quad(&mut self, face: OrientedBlockFace, quad: UnorientedQuad, k: u32)
-        requires drawable { Drawable face quad }
-        requires k_lt_most_quads { k < most_quads }
-        requires room { Room (quad_text k (on face quad)) self.old }
-        ensures { Wrote (quad_text k (on face quad)) self.old self.new }
+    fn quad(&mut self, quad: Quad)
+        requires { Room (quad_text quad.number (on quad.face quad.quad)) self.old }
+        ensures { Wrote (quad_text quad.number (on quad.face quad.quad)) self.old self.new }
     {
-        self.corners(face, quad);
-        self.triangles(face, quad, k);
+        self.corners(quad);
+        self.triangles(quad);
     }
 
     // The lines of a group: so many quads on a face, after so many of the groups before.
@@ -115,31 +115,27 @@ impl<'a> Page<'a> {
     {
         for k in first..first + count {
             let from = k * QUAD_NUMBERS;
-            let numbers = &quads[from..from + QUAD_NUMBERS];
-            self.quad(face, handed::quad_from(numbers), k as u32);
+            self.quad(Quad {
+                face,
+                quad: handed::quad_from(&quads[from..from + QUAD_NUMBERS]),
+                number: k as u32,
+            });
         }
     }
 }
 
-// The text of a mesh that has passed its checks, from the start of an output that has room for it. It
-// answers how many bytes it has.
-pub(crate) fn mesh(
-    faces: [OrientedBlockFace; 6],
-    counts: [u64; 6],
-    quads: &[u32],
-    out: &mut [u8],
-) -> usize
-    requires quads_value { checked (listed_checks faces counts quads.now) ≡ accepted tt }
-    requires quads_in_bounds { length (obj_text faces counts quads.now) ≤ length out.old }
-    ensures value { result ≡ length (obj_text faces counts quads.now) }
-    ensures out_after { out.new ≡ overwritten (obj_text faces counts quads.now) out.old }
+// The text of a mesh, from the start of an output that has room for it. It answers how many bytes it has.
+pub(crate) fn mesh(mesh: &Mesh, out: &mut [u8]) -> usize
+    requires { length (obj_text mesh.now.faces mesh.now.counts mesh.now.quads.now) ≤ length out.old }
+    ensures value { result ≡ length (obj_text mesh.now.faces mesh.now.counts mesh.now.quads.now) }
+    ensures out_after { out.new ≡ overwritten (obj_text mesh.now.faces mesh.now.counts mesh.now.quads.now) out.old }
 {
     let mut page = Page { out, at: 0 };
     page.bytes(b"o mesh\n");
     let mut first = 0;
-    for (face, count) in faces.iter().zip(&counts) {
+    for (face, count) in mesh.faces.iter().zip(&mesh.counts) {
         let count = *count as usize;
-        page.group(*face, quads, first, count);
+        page.group(*face, mesh.quads, first, count);
         first += count;
     }
     page.at

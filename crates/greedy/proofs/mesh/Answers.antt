@@ -1,16 +1,9 @@
 -- `mesh` meets its contract: what the groups leave is what meshing leaves, with the marks cleared again.
 use mathlib.Core.Path.{refl}
-use native.Mathlib.Omega.{arith}
 use Rattle.geometry.proofs.Answers.{handed_on}
 use Rattle.listing.specs.Listing.{capacity}
 use Rattle.greedy.proofs.Outcome.{many_left, all_left}
 use Rattle.greedy.proofs.mesh.Goals as goal
-
-pub mesh_faces-meshed-requires : goal.mesh_faces-meshed-requires
-mesh_faces-meshed-requires c = c.requires
-
-pub clear-requires : goal.clear-requires
-clear-requires c = rw c.mesh_faces-meshed.auto.visited (omega (arith, c.requires.size_value, c.requires.accepted.marked))
 
 pub returns-in_err-counts : goal.returns-in_err-counts
 unfolding capacity

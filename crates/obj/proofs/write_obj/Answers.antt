@@ -1,7 +1,7 @@
 -- `write_obj` meets its contract: it checks the mesh, looks whether its text fits, and writes it where it does.
 use mathlib.Core.Bool.{Bool}
 use mathlib.Core.List.{List}
-use mathlib.Core.Path.{◌≡◌, sym, ◌∙◌, ap}
+use mathlib.Core.Path.{◌≡◌, sym, ◌∙◌}
 use Prim.Native.Nat.{ℕ, ◌≤◌, ◌<◌}
 use lib.Dec.{leb}
 use lib.ListN.{length}
@@ -51,11 +51,8 @@ summed c =
 fit : (c : After-fits) → {b : Bool} → c.fits.result ≡ b → let a = c.args in leb (length (obj_text a.faces a.counts a.quads.now)) (length a.out.now) ≡ b
 fit c e = sym c.fits.ensures ∙ e
 
-pub fits-requires : goal.fits-requires
-fits-requires c = record { quads_value = passed (goal.at.fits-requires c).In_ok-all; all_value = summed (goal.at.fits-requires c).In_ok-all }
-
-pub mesh-requires : goal.mesh-requires
-mesh-requires c = record { quads_value = passed (goal.at.mesh-requires c).In_ok-all; quads_in_bounds = leb-true _ _ (fit (goal.at.mesh-requires c).After-fits c.if-not-fits.false) }
+pub invariant_of-mesh : goal.invariant_of-mesh
+invariant_of-mesh c = record { passed = passed (goal.at.invariant_of-mesh c).In_ok-all; summed = summed (goal.at.invariant_of-mesh c).In_ok-all }
 
 pub returns-in_err-all : goal.returns-in_err-all
 returns-in_err-all c =

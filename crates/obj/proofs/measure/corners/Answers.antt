@@ -9,9 +9,10 @@ use Rattle.obj.proofs.Measured.{corners_long}
 use Rattle.obj.proofs.measure.corners.Goals as goal
 
 pub unwrap-corners-requires : goal.unwrap-corners-requires
-unwrap-corners-requires c = ap is_ok (corners_given _ _ c.requires c.quad_corners.ensures)
+unwrap-corners-requires c = let q = c.args.quad in ap is_ok (corners_given q.face q.quad q.drawable c.quad_corners.ensures)
 
 pub returns : goal.returns
 returns c =
-    let is = one_value c.unwrap-corners.ensures (corners_given c.args.face c.args.quad c.requires c.quad_corners.ensures) in
-    rw (c.places-first.ensures.value, c.places-last.ensures.value) (ap (λ (m : QuadCorners). 20 + 2 * (point_places m.minu_minv + point_places m.maxu_maxv)) is ∙ sym (corners_long c.args.face c.args.quad))
+    let q = c.args.quad in
+    let is = one_value c.unwrap-corners.ensures (corners_given q.face q.quad q.drawable c.quad_corners.ensures) in
+    rw (c.places-first.ensures.value, c.places-last.ensures.value) (ap (λ (m : QuadCorners). 20 + 2 * (point_places m.minu_minv + point_places m.maxu_maxv)) is ∙ sym (corners_long q.face q.quad))

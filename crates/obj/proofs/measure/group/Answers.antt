@@ -24,17 +24,11 @@ next c =
     let a = c.args in
     measured _ _ (text_next a.quads.now a.face c.loop-k.k (a.first + a.count) c.loop-k-test.true (read (goal.at.After-quad-length c).After-quad_from)) c.quad-length.ensures
 
-pub loop-k-init : goal.loop-k-init
-loop-k-init c =
-    let a = c.args in
-    let all : a.first + a.count - a.first ≡ a.count = omega arith in
-    (rw all c.requires, rw all (omega arith))
+pub slice_bounds-quad_from-end : goal.slice_bounds-quad_from-end
+slice_bounds-quad_from-end c = let h : c.loop-k.k * quad_numbers + quad_numbers ≤ length c.args.quads.now = ready_held c.loop-k.invariant.0 c.loop-k-test.true in search rules
 
-pub slice_bounds-numbers-end : goal.slice_bounds-numbers-end
-slice_bounds-numbers-end c = let h : c.loop-k.k * quad_numbers + quad_numbers ≤ length c.args.quads.now = ready_held c.loop-k.invariant.0 c.loop-k-test.true in search rules
-
-pub quad-length-requires-clause-drawable : goal.quad-length-requires-clause-drawable
-quad-length-requires-clause-drawable c = ready_drawable c.loop-k.invariant.0 c.loop-k-test.true (read (goal.at.quad-length-requires-clause-drawable c).After-quad_from)
+pub invariant_of-quad-clause-drawable : goal.invariant_of-quad-clause-drawable
+invariant_of-quad-clause-drawable c = ready_drawable c.loop-k.invariant.0 c.loop-k-test.true (read (goal.at.invariant_of-quad-clause-drawable c).After-quad_from)
 
 pub overflow_add-length : goal.overflow_add-length
 overflow_add-length c = record { fits = omega (arith, next c, c.loop-k.invariant.1, group_at_most c.requires, c.requires.few) }

@@ -10,19 +10,22 @@ use Rattle.obj.proofs.measure.mesh.Goals as goal
 
 pub loop-face-init : goal.loop-face-init
 loop-face-init c =
-    let faces : c.into_iter-face-iterator.result.a.rest.now ≡ c.args.faces = search rules in
-    let counts : c.into_iter-face-iterator.result.b.rest.now ≡ c.args.counts = search rules in
-    rw (faces, counts) (mesh_ready c.requires, omega (arith, ap length (mesh_text c.args.quads.now c.args.faces c.args.counts)))
+    let m = c.args.mesh.now in
+    let faces : c.into_iter-face-iterator.result.a.rest.now ≡ m.faces = search rules in
+    let counts : c.into_iter-face-iterator.result.b.rest.now ≡ m.counts = search rules in
+    rw (faces, counts) (mesh_ready m.passed, omega (arith, ap length (mesh_text m.quads.now m.faces m.counts)))
 
 pub group-length-requires : goal.group-length-requires
 group-length-requires c = let s = c.in-Some.ensures.steps in groups_ready _ s.0 s.1 _ c.loop-face.invariant.0
 
 pub overflow_add-length : goal.overflow_add-length
 overflow_add-length c =
+    let m = c.args.mesh.now in
+    let l = c.loop-face in
     let s = c.in-Some.ensures.steps in
-    let six_faces : length c.args.faces ≡ 6 = search rules in
-    let six_counts : length c.args.counts ≡ 6 = search rules in
-    record { fits = omega (arith, measured _ _ (groups_next c.args.quads.now s.0 s.1 c.loop-face.first) c.group-length.ensures, c.loop-face.invariant.1, handed_at_most _ _ _ (six_faces ∙ sym six_counts) c.requires, (order_passed _ _ _ _ c.requires).few) }
+    let six_faces : length m.faces ≡ 6 = search rules in
+    let six_counts : length m.counts ≡ 6 = search rules in
+    record { fits = omega (arith, measured _ _ (groups_next m.quads.now s.0 s.1 l.first) c.group-length.ensures, l.invariant.1, handed_at_most m.faces m.counts m.quads.now (six_faces ∙ sym six_counts) m.passed, (order_passed _ _ _ _ m.passed).few) }
 
 pub overflow_add-first : goal.overflow_add-first
 overflow_add-first c =
@@ -31,11 +34,11 @@ overflow_add-first c =
 
 pub loop-face-preserved : goal.loop-face-preserved
 loop-face-preserved c =
-    let s = c.in-Some.ensures.steps in
     let l = c.loop-face in
-    (groups_on _ s.0 s.1 _ l.invariant.0, omega (arith, measured _ _ (groups_next c.args.quads.now s.0 s.1 l.first) c.group-length.ensures, l.invariant.1))
+    let s = c.in-Some.ensures.steps in
+    (groups_on _ s.0 s.1 _ l.invariant.0, omega (arith, measured _ _ (groups_next c.args.mesh.now.quads.now s.0 s.1 l.first) c.group-length.ensures, l.invariant.1))
 
 pub returns : goal.returns
 returns c =
     let l = c.loop-face in
-    omega (arith, l.invariant.1, ap length (groups_done c.args.quads.now l.face-iterator.a.rest.now l.face-iterator.b.rest.now l.first c.in-None.ensures.steps))
+    omega (arith, l.invariant.1, ap length (groups_done c.args.mesh.now.quads.now l.face-iterator.a.rest.now l.face-iterator.b.rest.now l.first c.in-None.ensures.steps))

@@ -9,4 +9,5 @@ abbrev pub invariant-loop-face : goal.invariant-loop-face
 invariant-loop-face l =
     let faces = l.face-iterator.a.rest.now in
     let counts = l.face-iterator.b.rest.now in
-    GroupsReady l.quads faces counts l.first × (l.length + length (groups_text l.quads faces counts l.first) ≡ length (obj_text l.fn.faces l.fn.counts l.quads))
+    let m = l.fn.mesh in
+    GroupsReady m.quads.now faces counts l.first × (l.length + length (groups_text m.quads.now faces counts l.first) ≡ length (obj_text m.faces m.counts m.quads.now))

@@ -14,21 +14,21 @@ use Rattle.obj.proofs.put.mesh.Goals as goal
 use Rattle.obj.proofs.put.mesh.Goals.{Start}
 
 -- A page of the output as it was has room for the text,
-room : (c : Start) → {p : Page} → p.at ≡ 0 → p.out.now ≡ c.args.out.now → Room (obj_text c.args.faces c.args.counts c.args.quads.now) p
-room c {p} at out = record { fits = rw (at, out) (omega (arith, c.requires.quads_in_bounds)) }
+room : (c : Start) → {p : Page} → p.at ≡ 0 → p.out.now ≡ c.args.out.now → let m = c.args.mesh.now in Room (obj_text m.faces m.counts m.quads.now) p
+room c {p} at out = record { fits = rw (at, out) (omega (arith, c.requires)) }
 
 -- so for the first line and the groups after it.
-room_in_two : (c : Start) → {p : Page} → p.at ≡ 0 → p.out.now ≡ c.args.out.now → Room (first_line ++ groups_text c.args.quads.now c.args.faces c.args.counts 0) p
-room_in_two c at out = room_as (mesh_text c.args.quads.now c.args.faces c.args.counts) (room c at out)
+room_in_two : (c : Start) → {p : Page} → p.at ≡ 0 → p.out.now ≡ c.args.out.now → let m = c.args.mesh.now in Room (first_line ++ groups_text m.quads.now m.faces m.counts 0) p
+room_in_two c at out = let m = c.args.mesh.now in room_as (mesh_text m.quads.now m.faces m.counts) (room c at out)
 
 pub bytes-requires : goal.bytes-requires
 bytes-requires c = room_first _ (room_in_two (goal.at.bytes-requires c).Start refl refl)
 
 pub loop-face-init : goal.loop-face-init
 loop-face-init c =
-    let faces : c.into_iter-face-iterator.result.a.rest.now ≡ c.args.faces = search rules in
-    let counts : c.into_iter-face-iterator.result.b.rest.now ≡ c.args.counts = search rules in
-    rw (faces, counts) (mesh_ready c.requires.quads_value, leads_start refl)
+    let faces : c.into_iter-face-iterator.result.a.rest.now ≡ c.args.mesh.now.faces = search rules in
+    let counts : c.into_iter-face-iterator.result.b.rest.now ≡ c.args.mesh.now.counts = search rules in
+    rw (faces, counts) (mesh_ready c.args.mesh.now.passed, leads_start refl)
 
 pub group-requires-clause-group_ready : goal.group-requires-clause-group_ready
 group-requires-clause-group_ready c = let s = c.in-Some.ensures.steps in groups_ready _ s.0 s.1 _ c.loop-face.invariant.0
@@ -52,9 +52,9 @@ loop-face-preserved c =
 
 pub returns : goal.returns
 returns c =
-    let a = c.args in
+    let m = c.args.mesh.now in
     let groups = leads_done c.loop-face.invariant.1 (groups_done _ _ _ _ c.in-None.ensures.steps) in
-    let all = wrote_as (sym (mesh_text a.quads.now a.faces a.counts)) (wrote_both c.bytes.ensures groups) in
+    let all = wrote_as (sym (mesh_text m.quads.now m.faces m.counts)) (wrote_both c.bytes.ensures groups) in
     let same : c.loop-face.page.out.ghost_name ≡ _ = all.same in
-    let is : c.loop-face.page.out.now ≡ overwritten (obj_text a.faces a.counts a.quads.now) a.out.now = wrote_whole refl (room (goal.at.returns c).Start refl refl) all in
+    let is : c.loop-face.page.out.now ≡ overwritten (obj_text m.faces m.counts m.quads.now) c.args.out.now = wrote_whole refl (room (goal.at.returns c).Start refl refl) all in
     record { value = omega (arith, all.at); out_after = search rules }

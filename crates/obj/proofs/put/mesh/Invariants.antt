@@ -6,4 +6,5 @@ abbrev pub invariant-loop-face : goal.invariant-loop-face
 invariant-loop-face l =
     let faces = l.face-iterator.a.rest.now in
     let counts = l.face-iterator.b.rest.now in
-    GroupsReady l.quads faces counts l.first × Leads (groups_text l.quads faces counts l.first) l.page (groups_text l.quads l.fn.faces l.fn.counts 0) l.initial.page
+    let list = l.fn.mesh.quads.now in
+    GroupsReady list faces counts l.first × Leads (groups_text list faces counts l.first) l.page (groups_text list l.fn.mesh.faces l.fn.mesh.counts 0) l.initial.page

@@ -1,8 +1,13 @@
--- `bytes` meets its contract: they stand where writing had come.
+-- `bytes` meets its contract: one is written after the other.
 use mathlib.Core.Path.{refl}
+use native.Mathlib.Numerals.{add-one}
 use native.Mathlib.Omega.{arith}
-use Rattle.listing.proofs.Pushed.{set_part}
+use lib.Seq.{drop-cons}
+use Rattle.obj.proofs.Page.{wrote_byte, leads_start, leads_on}
 use Rattle.obj.proofs.put.Page.bytes.Goals as goal
 
-pub returns : goal.returns
-returns c = record { bytes = set_part _ _ _ c.copy_from_slice.ensures.after (omega arith) c.requires.fits; at = refl; same = refl }
+pub loop-byte-init : goal.loop-byte-init
+loop-byte-init c = leads_start refl
+
+pub loop-byte-preserved : goal.loop-byte-preserved
+loop-byte-preserved c = let l = c.loop-byte in rw (add-one l.byte-index) (leads_on l.invariant (drop-cons c.args.new.now l.byte-index 0 (omega arith)) (wrote_byte _ _))

@@ -20,14 +20,14 @@ loop-k-init c =
     let all : a.first + a.count - a.first ≡ a.count = omega arith in
     (rw all c.requires.group_ready, leads_start (rw all))
 
-pub slice_bounds-numbers-end : goal.slice_bounds-numbers-end
-slice_bounds-numbers-end c = let h : c.loop-k.k * quad_numbers + quad_numbers ≤ length c.args.quads.now = ready_held c.loop-k.invariant.0 c.loop-k-test.true in search rules
+pub slice_bounds-quad_from-end : goal.slice_bounds-quad_from-end
+slice_bounds-quad_from-end c = let h : c.loop-k.k * quad_numbers + quad_numbers ≤ length c.args.quads.now = ready_held c.loop-k.invariant.0 c.loop-k-test.true in search rules
 
-pub quad-requires-clause-drawable : goal.quad-requires-clause-drawable
-quad-requires-clause-drawable c = ready_drawable c.loop-k.invariant.0 c.loop-k-test.true (read (goal.at.quad-requires-clause-drawable c).After-quad_from)
+pub invariant_of-quad-clause-drawable : goal.invariant_of-quad-clause-drawable
+invariant_of-quad-clause-drawable c = ready_drawable c.loop-k.invariant.0 c.loop-k-test.true (read (goal.at.invariant_of-quad-clause-drawable c).After-quad_from)
 
-pub quad-requires-clause-room : goal.quad-requires-clause-room
-quad-requires-clause-room c = room_first _ (room_as (text_next _ _ _ _ c.loop-k-test.true (read (goal.at.quad-requires-clause-room c).After-quad_from)) (leads_room c.loop-k.invariant.1 c.requires.room))
+pub quad-requires : goal.quad-requires
+quad-requires c = room_first _ (room_as (text_next _ _ _ _ c.loop-k-test.true (read (goal.at.quad-requires c).After-quad_from)) (leads_room c.loop-k.invariant.1 c.requires.room))
 
 pub loop-k-preserved : goal.loop-k-preserved
 loop-k-preserved c =

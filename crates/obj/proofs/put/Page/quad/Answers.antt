@@ -9,14 +9,14 @@ use Rattle.obj.proofs.put.Page.quad.Goals as goal
 use Rattle.obj.proofs.put.Page.quad.Goals.{Start}
 
 -- There is room for both.
-room : (c : Start) → Room (bytes_of (corner_lines (on c.args.face c.args.quad)) ++ bytes_of (triangle_lines c.args.k (on c.args.face c.args.quad))) c.args.self.now
-room c = room_as (quad_cut_in_two _ _) c.requires.room
+room : (c : Start) → let q = c.args.quad in Room (bytes_of (corner_lines (on q.face q.quad)) ++ bytes_of (triangle_lines q.number (on q.face q.quad))) c.args.self.now
+room c = room_as (quad_cut_in_two _ _) c.requires
 
 pub corners-requires : goal.corners-requires
-corners-requires c = record { drawable = c.requires.drawable; room = room_first _ (room (goal.at.corners-requires c).Start) }
+corners-requires c = room_first _ (room (goal.at.corners-requires c).Start)
 
 pub triangles-requires : goal.triangles-requires
-triangles-requires c = record { drawable = c.requires.drawable; k_lt_most_quads = c.requires.k_lt_most_quads; room = room_second _ (room (goal.at.triangles-requires c).Start) c.corners.ensures }
+triangles-requires c = room_second _ (room (goal.at.triangles-requires c).Start) c.corners.ensures
 
 pub returns : goal.returns
 returns c = wrote_as (sym (quad_cut_in_two _ _)) (wrote_both c.corners.ensures c.triangles.ensures)

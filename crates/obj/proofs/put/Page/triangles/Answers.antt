@@ -10,27 +10,29 @@ use Rattle.obj.proofs.put.Page.triangles.Goals as goal
 use Rattle.obj.proofs.put.Page.triangles.Goals.{After-unwrap-i}
 
 -- What geometry gave are the quad's vertex numbers,
-is : (c : After-unwrap-i) → let a = c.args in c.unwrap-i.result ≡ indices_at a.k (on a.face a.quad)
-is c = one_value c.unwrap-i.ensures (indices_given _ c.args.quad c.requires.drawable _ c.requires.k_lt_most_quads c.quad_mesh_indices.ensures)
+is : (c : After-unwrap-i) → let q = c.args.quad in c.unwrap-i.result ≡ indices_at q.number (on q.face q.quad)
+is c = let q = c.args.quad in one_value c.unwrap-i.ensures (indices_given q.face q.quad q.drawable q.number q.few c.quad_mesh_indices.ensures)
 
 -- and there is room for the two lines.
 room : (c : After-unwrap-i) → Room (two_lines c.unwrap-i.result) c.args.self.now
-room c = room_as (triangles_lines c.args.k c.args.face c.args.quad (is c)) c.requires.room
+room c = let q = c.args.quad in room_as (triangles_lines q.number q.face q.quad (is c)) c.requires
 
 pub unwrap-i-requires : goal.unwrap-i-requires
-unwrap-i-requires c = ap is_ok (indices_given _ c.args.quad c.requires.drawable _ c.requires.k_lt_most_quads c.quad_mesh_indices.ensures)
+unwrap-i-requires c = let q = c.args.quad in ap is_ok (indices_given q.face q.quad q.drawable q.number q.few c.quad_mesh_indices.ensures)
 
 pub triangle-requires : goal.triangle-requires
 triangle-requires c =
+    let q = c.args.quad in
     let here = (goal.at.triangle-requires c).After-unwrap-i in
-    record { a_bound = (small_indices _ c.args.face c.args.quad c.requires.k_lt_most_quads (is here)).0; room = room_first _ (room here) }
+    record { a_bound = (small_indices q.number q.face q.quad q.few (is here)).0; room = room_first _ (room here) }
 
 pub triangle-requires-2 : goal.triangle-requires-2
 triangle-requires-2 c =
+    let q = c.args.quad in
     let here = (goal.at.triangle-requires-2 c).After-unwrap-i in
-    record { a_bound = (small_indices _ c.args.face c.args.quad c.requires.k_lt_most_quads (is here)).1; room = room_second _ (room here) c.triangle.ensures }
+    record { a_bound = (small_indices q.number q.face q.quad q.few (is here)).1; room = room_second _ (room here) c.triangle.ensures }
 
 pub returns : goal.returns
 returns c =
-    let a = c.args in
-    wrote_as (sym (triangles_lines a.k a.face a.quad (is (goal.at.returns c).After-unwrap-i))) (wrote_both c.triangle.ensures c.triangle-2.ensures)
+    let q = c.args.quad in
+    wrote_as (sym (triangles_lines q.number q.face q.quad (is (goal.at.returns c).After-unwrap-i))) (wrote_both c.triangle.ensures c.triangle-2.ensures)
