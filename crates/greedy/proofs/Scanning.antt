@@ -1,20 +1,19 @@
--- A face's scan by indices: what a scanned voxel leaves, and loops that scan, of which what is scanned and what is left make the whole.
+-- A face's scan by indices: what a scanned voxel leaves, and loops that scan, by what they have made so far.
 use mathlib.Core.Bool.{true, false}
 use mathlib.Core.List.{List}
 use mathlib.Core.Path.{◌≡◌, refl, ◌∙◌}
 use Prim.Native.Nat.{ℕ, ◌+◌, ◌*◌, ◌≤◌, ◌<◌}
-use native.Mathlib.Nat.{mul-le-mul_right}
 use native.Mathlib.Omega.{arith}
 use lib.ListN.{length}
 use Rattle.geometry.specs.Point.{Point}
 use Rattle.voxels.specs.Loop.{steps}
-use Rattle.voxels.proofs.Loops.{stride_more, stride_fits}
+use Rattle.voxels.proofs.Loops.{stride_more}
 use Rattle.listing.proofs.Pushed.{pushed_counts}
 use Rattle.rules.specs.Group.{Pick, quad_of}
 use Rattle.greedy.specs.Greedy.{listed, quad_numbers, numbers_of}
 use Rattle.greedy.specs.Walks.{needs_at}
 use Rattle.greedy.specs.Marks.{Stepping, mark_quad_at}
-use Rattle.greedy.specs.Scans.{Scanned, listed_on, laid_by, laid_at, scanned_at, SpotReady, voxel_tests, Scans, QuadLaid, RoomFor, SameCall, progress}
+use Rattle.greedy.specs.Scans.{Scanned, listed_on, laid_by, laid_at, scanned_at, SpotReady, voxel_tests, Scans, QuadLaid, SameCall, progress}
 use Rattle.greedy.proofs.Steps.{steps_none, steps_next}
 use Rattle.greedy.specs.declared.Mesher.{Mesher}
 use Rattle.greedy.proofs.Rectangles.{picked_at, picked_tests}
@@ -68,14 +67,6 @@ module _ {act : List ℕ → Scanned → ℕ → ℕ → Scanned} {most d a i : 
   scan_start few = record { same = same_start; made = steps_none d (act was.block.voxels.now) (progress was) a i; few = few; bound = omega arith }
 
   module _ {now : Mesher} {k : ℕ} (l : Scanning act most d a i was now k) where
-    -- Its tests fit,
-    pub scan_tests : {n all : ℕ} → k ≤ n → was.tests + n * most ≤ all → now.tests ≤ all
-    scan_tests {n = n} h fits = omega (arith, l.bound, mul-le-mul_right {m = k} {n = n} most h)
-
-    -- and there is room for those of one more turn.
-    pub scan_room : {n : ℕ} → k < n → RoomFor (n * most) (progress was) → RoomFor most (progress now)
-    scan_room {n = n} h room = (l.few, omega (arith, room.1, stride_fits k n most h, l.bound))
-
     -- What the loop asks for holds of the next turn, by the buffers as they are now.
     pub scan_asks : (Asked : ℕ → ℕ → ℕ → ℕ → Type 0) {n : ℕ} → Stepping (Asked (length was.block.voxels.now) (length was.visited.now)) d a i n → k < n
         → Asked (length now.block.voxels.now) (length now.visited.now) (a + k) (i + k * d)

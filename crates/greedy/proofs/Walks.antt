@@ -1,7 +1,7 @@
--- The walk by indices, as the code makes it: what has passed and what is left make the whole; and the tests that it makes.
+-- The walk by indices, as the code makes it: what passes and what is left make the whole; and the tests of voxels.
 use mathlib.Core.Bool.{Bool, true, false}
 use mathlib.Core.List.{List}
-use mathlib.Core.Path.{◌≡◌, refl, sym, ◌∙◌, ap}
+use mathlib.Core.Path.{◌≡◌, sym, ◌∙◌, ap}
 use Prim.Native.Nat.{ℕ, zero, suc, ◌+◌, ◌-◌, ◌*◌, ◌≤◌, ◌<◌}
 use native.Mathlib.Nat.{add-zero, zero-add, add_assoc, sub-zero, zero-mul, one-mul, suc-mul, mul-le-mul_right}
 use native.Mathlib.Omega.{arith}
@@ -57,30 +57,29 @@ pub record Rows (row : ℕ → Walked) (width d i most first k tests : ℕ) : Ty
   pub few : tests ≤ k * modulus
   pub whole : after_rows k tests (rows_left row width d i k most) ≡ after_rows 1 first (rows_left row width d i 1 most)
 
-module _ {row : ℕ → Walked} {width d i most first : ℕ} where
-  pub rows_start : first < modulus → Rows row width d i most first 1 first
-  rows_start h = record { few = omega arith; whole = refl }
+module _ {row : ℕ → Walked} {width d i most first k t : ℕ} (l : Rows row width d i most first k t) where
+  module _ (r : Walked) (h : k < most) (is : r ≡ row (i + k * d)) where
+    -- A whole row is one more,
+    pub rows_on : r.got ≡ width → r.tests < modulus → Rows row width d i most first (k + 1) (t + r.tests)
+    rows_on e small =
+        let place : i + k * d + d ≡ i + (k + 1) * d = omega (arith, stride_more k d) in
+        record {
+          few = omega (arith, l.few);
+          whole = rw (is, add_assoc, add_assoc) (rw (more k most h, rows_whole row width (step_by d) (i + k * d) (most - (k + 1)) (ap (λ (x : Walked). x.got) (sym is) ∙ e), place) at l.whole);
+        }
 
-  module _ {k t : ℕ} (l : Rows row width d i most first k t) where
-    module _ (r : Walked) (h : k < most) (is : r ≡ row (i + k * d)) where
-      pub rows_on : r.got ≡ width → r.tests < modulus → Rows row width d i most first (k + 1) (t + r.tests)
-      rows_on e small =
-          let place : i + k * d + d ≡ i + (k + 1) * d = omega (arith, stride_more k d) in
-          record {
-            few = omega (arith, l.few);
-            whole = rw (is, add_assoc, add_assoc) (rw (more k most h, rows_whole row width (step_by d) (i + k * d) (most - (k + 1)) (ap (λ (x : Walked). x.got) (sym is) ∙ e), place) at l.whole);
-          }
+    -- another ends the walk,
+    pub rows_stop : (r.got ≡ width → ⊥) → walk k (t + r.tests) ≡ after_rows 1 first (rows_left row width d i 1 most)
+    rows_stop other =
+        rw is (rw (add-zero) at (rw (more k most h, rows_broken row width (step_by d) (i + k * d) (most - (k + 1)) (λ e. other (ap (λ (x : Walked). x.got) is ∙ e))) at l.whole))
 
-      pub rows_stop : (r.got ≡ width → ⊥) → walk k (t + r.tests) ≡ after_rows 1 first (rows_left row width d i 1 most)
-      rows_stop other =
-          rw is (rw (add-zero) at (rw (more k most h, rows_broken row width (step_by d) (i + k * d) (most - (k + 1)) (λ e. other (ap (λ (x : Walked). x.got) is ∙ e))) at l.whole))
-
-    pub rows_done : k ≡ most → walk most t ≡ after_rows 1 first (rows_left row width d i 1 most)
-    unfolding walked_rows
-    rows_done e =
-        let none : most - k ≡ zero = omega arith in
-        let stay : walk k t ≡ after_rows k t (walked_rows row width (step_by d) (i + k * d) zero) = rw (add-zero, add-zero) in
-        rw e at (stay ∙ rw none at l.whole)
+  -- and so does the last.
+  pub rows_done : k ≡ most → walk most t ≡ after_rows 1 first (rows_left row width d i 1 most)
+  unfolding walked_rows
+  rows_done e =
+      let none : most - k ≡ zero = omega arith in
+      let stay : walk k t ≡ after_rows k t (walked_rows row width (step_by d) (i + k * d) zero) = rw (add-zero, add-zero) in
+      rw e at (stay ∙ rw none at l.whole)
 
 -- ---- tests
 
@@ -124,9 +123,6 @@ module _ (vn mn off i du wide dv high : ℕ) (ready : QuadReady vn mn off i du w
   -- The first row of a rectangle is ready,
   pub first_row : WalkReady vn mn off i du wide
   first_row = rw (zero-mul, add-zero) at (ready.each 0 ready.high_some)
-
-  pub first_voxel : i < vn
-  first_voxel = rw (zero-mul, add-zero) at (first_row.each 0 ready.wide_some).here
 
   -- and so is each row, in part.
   pub next_row : (w k : ℕ) → w ≤ wide → k < high → WalkReady vn mn off (i + k * dv) du w
