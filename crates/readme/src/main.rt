@@ -2,7 +2,7 @@
 #![tactic(auto)]
 
 use geometry::axis::SignedAxis;
-use geometry::face::{Corner, OrientedBlockFace, PositionAnswer};
+use geometry::face::{Corner, OrientedBlockFace};
 use geometry::quad::{UnorientedQuad, UnorientedUnitQuad};
 use geometry::vector::UVec3;
 use std::io;
@@ -15,18 +15,18 @@ pub fn roof(voxels: &[u16], visited: &mut [u8], out: &mut [u32]) -> u64 {
     let max = UVec3 { x: 3, y: 3, z: 2 };
     let up = OrientedBlockFace::canonical(SignedAxis::PosZ);
     let faces = [up, up, up, up, up, up];
-    let answer = greedy::greedy_quads(voxels, shape, min, max, faces, visited, out);
-    let mesh = answer.mesh;
-    let counts = mesh.counts;
-    counts[0]
+    match greedy::greedy_quads(voxels, shape, min, max, faces, visited, out) {
+        Ok(mesh) => mesh.counts[0],
+        Err(_) => 0,
+    }
 }
 
 // The x of a quad's corner opposite its base, or 0 where the quad is refused.
 pub fn far_x(quad: UnorientedQuad, voxel_size: f32) -> f32 {
     let face = OrientedBlockFace::canonical(SignedAxis::PosX);
     match face.quad_mesh_position(quad, Corner::MaxuMaxv, voxel_size) {
-        PositionAnswer::Position(x, _, _) => x,
-        PositionAnswer::Refused(_) => 0.0,
+        Ok(position) => position.x,
+        Err(_) => 0.0,
     }
 }
 
