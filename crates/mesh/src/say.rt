@@ -40,7 +40,7 @@ impl From<Wrong> for Failure {
 
 impl From<Refusal> for Failure {
     fn from(refusal: Refusal) -> Failure {
-        Failure::Wrong(Wrong::Refused(Refused(refusal)))
+        Failure::Wrong(refusal.into())
     }
 }
 
@@ -88,6 +88,12 @@ pub enum Wrong {
     Refused(Refused),
     #[error("the OBJ text could not be written, or not all of it")]
     Unwritten,
+}
+
+impl From<Refusal> for Wrong {
+    fn from(refusal: Refusal) -> Wrong {
+        Wrong::Refused(Refused(refusal))
+    }
 }
 
 // That a call was refused. The reasons that this command cannot get have no words of their own.
