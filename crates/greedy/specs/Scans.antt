@@ -131,11 +131,11 @@ face_tests c = c.slices.count * slice_tests c
 abbrev pub ample_tests : ℕ
 ample_tests = 64 * most_voxels * voxel_tests
 
--- A call that stands here has listed no more quads than it has made tests, and can make so many tests more.
+-- A call that stands here has listed no more quads than it has made tests, and can make so many tests more. (How many differs from function to function: no invariant of a mesher says it.)
 abbrev pub RoomFor : ℕ → Scanned → Type 0
 RoomFor most s = (s.output.listed ≤ s.tests) × (s.tests + most ≤ ample_tests)
 
--- What an accepted call goes by: its box passed the entry checks, and so many visited bytes were lent.
+-- What an accepted call goes by: its box passed the entry checks, and so many visited bytes were lent. (`Entered` names the box, which its interior does not determine: a ghost field takes no such fact.)
 pub record Accepted (voxels marks : ℕ) (shape : Point) (inner : Extent) : Type 0 where
   pub entered : Entered voxels shape inner
   pub marked : size shape ≤ marks

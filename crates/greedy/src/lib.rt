@@ -17,10 +17,12 @@ ghost use Rattle.greedy.specs.Walks.{Touches, needs_at, WalkReady, Idle};
 ghost use Rattle.greedy.specs.Scans.{progress, listed_on, SameCall, SpotReady, RowScan, SliceScan, SlicesScan, voxel_tests, row_tests, slice_tests, face_tests, ample_tests, RoomFor, Accepted, QuadLaid, RowScanned, SliceScanned, SlicesScanned, FaceMeshed, FacesMeshed};
 ghost use Rattle.voxels.specs.Shape as shape;
 
+mod block;
 mod face_scan;
 mod merge_strategy;
 mod visited;
 
+use crate::block::Block;
 use crate::face_scan::{FaceScan, FaceStrides};
 use geometry::axis::Axes;
 use geometry::face::OrientedBlockFace;
@@ -87,17 +89,6 @@ impl<'a> FaceView<'a> {
         }
         most
     }
-}
-
-// What an accepted call meshes.
-#[derive(Clone, Copy)]
-struct Block<'a> {
-    voxels: &'a [u16],
-    voxels_shape: UVec3,
-    // How many voxels the shape has.
-    size: usize,
-    // The interior of the box.
-    interior: Extent,
 }
 
 // A call underway: its block, the buffers that it was lent, and how far it is.
@@ -219,7 +210,6 @@ impl<'a> Mesher<'a> {
     // The group of a face: clears the marks, one a voxel of the shape, and scans the interior.
     fn greedy_quads_for_face(&mut self, face: OrientedBlockFace)
         requires room_for { RoomFor (most_voxels * voxel_tests) (progress self.old) }
-        requires size_value { self.old.block.size ≡ shape.size self.old.block.voxels_shape }
         requires accepted { Accepted (length self.old.block.voxels.now) (length self.old.visited.now) self.old.block.voxels_shape self.old.block.interior }
         ensures meshed { FaceMeshed self.old.block.voxels.now self.old.block.voxels_shape self.old.block.interior face (progress self.old) (progress self.new) }
         ensures same_call { SameCall self.old self.new }
@@ -247,8 +237,7 @@ fn mesh_faces(
     visited: &mut [u8],
     out: &mut [u32],
 ) -> Meshed
-    requires size_value { block.size ≡ shape.size block.voxels_shape }
-    requires accepted { Accepted (length block.voxels.now) (length visited.old) block.voxels_shape block.interior }
+    requires { Accepted (length block.voxels.now) (length visited.old) block.voxels_shape block.interior }
     ensures { FacesMeshed block.entry.voxels.now block.entry.voxels_shape block.entry.interior faces visited.old out.old visited.new out.new result }
 {
     let mut mesher = Mesher {

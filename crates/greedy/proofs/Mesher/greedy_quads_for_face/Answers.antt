@@ -23,4 +23,4 @@ returns-clause-meshed c =
     let a = c.args in
     let b = a.self.now.block in
     let h = c.requires in
-    scan_made _ _ b.voxels_shape b.interior h.accepted a.face _ c.new-scan.ensures _ c.linearize-start.ensures _ _ refl _ h.size_value _ c.clear.ensures c.scan_slices.ensures.scanned
+    scan_made _ _ b.voxels_shape b.interior h.accepted a.face _ c.new-scan.ensures _ c.linearize-start.ensures _ _ refl _ b.sized _ c.clear.ensures c.scan_slices.ensures.scanned
