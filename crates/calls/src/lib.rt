@@ -24,7 +24,7 @@ pub const LONGEST: usize = 65536;
 pub fn read<'a, R: Read>(input: &mut R, room: &'a mut [u8]) -> io::Result<&'a [u8]>
     ensures { IfOk result (λ list. IfSome (R.remaining input.old) (λ bytes. list.now ≡ take (length room.old) bytes)) }
 {
-    // Not by `read_to_end`, which needs the heap: the programs allocate nothing (docs/DECISIONS.md 73).
+    // Not by `read_to_end`, which needs the heap: examples and drawing allocate nothing (docs/DECISIONS.md 73).
     let mut got = 0;
     while got < room.len() {
         let n = input.read(&mut room[got..])?;
@@ -51,6 +51,7 @@ pub trait Calls {
     ghost outcome: { Self → Notation → Option ℕ → List ℕ → Option (List ℕ) } = { λ _ _ _ _. None };
 
     // Makes a call and writes what comes out of it.
+    // The writer and what is given stay two: a call reads of the one while it writes to the other.
     fn make<W: Write>(&self, out: &mut W, call: Call<'_>) -> io::Result<()>
         ensures { OnOk result (IfSome (outcome self.now call.entry.given.notation call.entry.letter call.entry.given.rest.now)
             (Appends (W.contents out.old) (W.contents out.new))) };
@@ -107,6 +108,7 @@ pub fn run<W: Write, C: Calls>(
         (Appends (W.contents out.old) (W.contents out.new))) }
 {
     let mut rest = list;
+    // Not by `split`: what a call takes may go on in the lines after its own.
     while !rest.is_empty() {
         rest = line(out, rest, notation, calls)?;
     }

@@ -62,6 +62,7 @@ fn tight(n: u32, out: &mut [u8]) -> usize
 // Writes a number's digits at the start of the scratch and answers how many there are. Where they do
 // not fit it answers 0, and the scratch is as it was. Any number fits into ten bytes, and there nothing
 // is counted first; small numbers are told first again.
+// 0 and no Option: it is the answer of spunmarrow_decimal, and no number has 0 digits.
 #[tactic(auto, using(crate::proofs::InLots::spelled_set))]
 pub fn spell(n: u32, scratch: &mut [u8]) -> usize
     ensures { spelt result scratch.new ≡ spelling n scratch.old }

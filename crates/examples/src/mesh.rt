@@ -93,7 +93,8 @@ fn fill(given: &mut Given<'_>, voxels: &mut [u16]) {
     }
 }
 
-// Unit meshing: check 6, its entry, its answer and its output.
+// Unit meshing: check 6, its entry, its answer and its output. It has no use for the visited bytes,
+// which `lent` lends to every mesher.
 pub fn unit<W: Write>(
     out: &mut W,
     m: Meshing,

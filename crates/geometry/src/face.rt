@@ -27,7 +27,7 @@ use crate::vector::{IVec3, UVec3};
 #[derive(Clone, Copy)]
 pub struct OrientedBlockFace {
     // The side of n that the face looks to: 1 or -1. What is drawn of a face with another sign is
-    // refused.
+    // refused: a number and no enum, since any may be handed in (face_checks).
     pub n_sign: i32,
     // Which axes are n, u and v.
     pub permutation: AxisPermutation,
@@ -79,7 +79,7 @@ pub struct Position {
     pub z: f32,
 }
 
-// The direction that a vertex faces.
+// The direction that a vertex faces. A type of its own, so that neither is taken for the other.
 #[derive(Clone, Copy)]
 pub struct Normal {
     pub x: f32,

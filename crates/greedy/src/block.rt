@@ -13,5 +13,6 @@ pub(crate) struct Block<'a> {
     // How many voxels the shape has.
     pub size: usize,
     pub interior: Extent,
+    // That the checks passed isn't said here: Accepted is of a box, which its interior doesn't determine.
     ghost sized: { size ≡ shape.size voxels_shape },
 }

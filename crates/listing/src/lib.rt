@@ -22,7 +22,8 @@ pub fn answered(listed: usize, capacity: usize, counts: [u64; 6]) -> Result<[u64
     Ok(counts)
 }
 
-// Lists an item after so many of as many numbers: it is written where there is room for all of it.
+// Lists an item after so many of as many numbers: it is written where there is room for all of it. How many
+// are listed is counted past what fits, so that the length of no slice or Vec can stand for it.
 pub fn push(out: &mut [u32], listed: usize, item: &[u32])
     ensures { out.new ≡ put out.old listed item.now }
 {

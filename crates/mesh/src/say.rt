@@ -32,6 +32,7 @@ impl Failure {
     }
 }
 
+// By hand: a word need not be text, so that a Failure has no Display for the derive.
 impl From<Wrong> for Failure {
     fn from(wrong: Wrong) -> Failure {
         Failure::Wrong(wrong)

@@ -31,6 +31,7 @@ pub enum Form {
 // What the words so far have said.
 #[derive(Drop)]
 struct Words {
+    // Two flags and no Form: either may come twice, and that both came is said after them all.
     unit: bool,
     obj: bool,
     shape: ArrayVec<u32, 3>,

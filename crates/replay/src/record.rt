@@ -44,6 +44,7 @@ impl TryFrom<u32> for Source {
 #[derive(Drop)]
 pub struct Record<'a> {
     pub kind: Kind,
+    // A number still: one that is no source's is said after all else that is wrong.
     source: u32,
     rest: &'a [u32],
 }

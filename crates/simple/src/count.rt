@@ -26,6 +26,7 @@ fn shown(voxel: u16, neighbor: u16) -> u16
     u16::from(voxel::class(neighbor) < voxel::class(voxel))
 }
 
+// The counts are lent to each method and are no field, for the reason that list.rt gives.
 impl Block<'_> {
     // How many voxels of a run show their faces to those that a stride leads to.
     fn count_run(&self, at: VoxelIndex, stride: Stride, long: u32) -> u16

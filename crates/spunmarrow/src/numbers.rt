@@ -1,4 +1,4 @@
-// What the numbers of a call stand for: permutations, corners, axes, points, quads, faces and counts.
+// What the numbers of a call stand for: permutations, corners, axes, points, quads and faces.
 ghost use Rattle.std.specs.Prelude.{◌≡◌, ◌<◌};
 ghost use Rattle.geometry.specs.Refusal.{answer, checked};
 ghost use Rattle.geometry.specs.Answers.{meaning};
@@ -12,6 +12,7 @@ use geometry::refusal::{Reason, Refusal};
 use geometry::vector::UVec3;
 
 // The point of three numbers.
+// No From: the pattern is one line, and says which number is which.
 pub(crate) fn point(numbers: &[u32; 3]) -> UVec3
     ensures { result ≡ point_of numbers.now }
 {
