@@ -1,5 +1,8 @@
 -- For private contracts: bytes put into an output one after another, and what is asked of the quads that they are made of.
 use Rattle.std.specs.Prelude.{true, List, [], ◌∷◌, ◌++◌, ◌≡◌, ℕ, ◌+◌, ◌*◌, ◌≤◌, length}
+use Rattle.std.specs.Coded.{Unit-prop, ×_prop}
+use Rattle.std.proofs.Math.Bool.{Bool-set}
+use Rattle.std.proofs.Props.{props}
 use Rattle.geometry.specs.declared.quad.UnorientedQuad.{UnorientedQuad}
 use Rattle.geometry.specs.declared.face.OrientedBlockFace.{OrientedBlockFace}
 use Rattle.geometry.specs.Point.{Point}
@@ -57,12 +60,20 @@ pub record Drawable (face : OrientedBlockFace) (quad : UnorientedQuad) : Type 0 
   pub within : WithinQuad (on face quad)
 
 -- Of a group of so many quads on a face, after so many quads of a list.
-pub record GroupReady (list : List ℕ) (face : OrientedBlockFace) (first at count : ℕ) : Type 0 where
+pub record GroupReady (list : List ℕ) (face : OrientedBlockFace) (first count : ℕ) : Type 0 where
   pub proper : proper_sign face.n_sign ≡ true
-  pub within : Each WithinQuad (quads_left quad_numbers list face at count)
+  pub within : Each WithinQuad (quads_left quad_numbers list face (first * quad_numbers) count)
   pub few : first + count ≤ most_quads
   pub held : first + count ≤ capacity quad_numbers (length list)
 
 -- The bytes of that group.
-abbrev pub group_text : List ℕ → OrientedBlockFace → ℕ → ℕ → ℕ → List ℕ
-group_text list face first at count = group_left quad_text quad_numbers list face first at count
+abbrev pub group_text : List ℕ → OrientedBlockFace → ℕ → ℕ → List ℕ
+group_text list face first count = group_left quad_text quad_numbers list face first (first * quad_numbers) count
+
+-- That quads are within the limits has one proof at most, as the ghost field of a struct asks.
+pub within_prop : (qs : List OrientedQuad) → IsProp (Each WithinQuad qs)
+unfolding Each
+within_prop [] = Unit-prop
+within_prop (q ∷ qs) = ×_prop (Bool-set _ _) (within_prop qs)
+
+pub ruleset ready_props = (props, within_prop)

@@ -9,8 +9,8 @@ ghost use Rattle.obj.specs.Text.{corner_line, triangle_line, corner_lines, trian
 ghost use Rattle.obj.specs.Obj.{obj_text};
 ghost use Rattle.obj.specs.Page.{Wrote, Room, ended, line_of, on, Drawable, GroupReady, group_text};
 
-use crate::mesh::{Mesh, Quad};
-use geometry::face::{CornersAnswer, IndicesAnswer, OrientedBlockFace, VertexIndex};
+use crate::mesh::{Group, Mesh, Quad};
+use geometry::face::{CornersAnswer, IndicesAnswer, VertexIndex};
 use geometry::vector::UVec3;
 use greedy::QUAD_NUMBERS;
 use writing::handed;
@@ -112,17 +112,16 @@ impl Page<'_> {
         self.triangles(quad);
     }
 
-    // The lines of a group: so many quads on a face, after so many of the groups before.
-    fn group(&mut self, face: OrientedBlockFace, quads: &[u32], first: usize, count: usize)
-        requires group_ready { GroupReady quads.now face first (first * quad_numbers) count }
-        requires room { Room (group_text quads.now face first (first * quad_numbers) count) self.old }
-        ensures { Wrote (group_text quads.now face first (first * quad_numbers) count) self.old self.new }
+    // The lines of a group.
+    fn group(&mut self, group: &Group)
+        requires { Room (group_text group.now.quads.now group.now.face group.now.first group.now.count) self.old }
+        ensures { Wrote (group_text group.now.quads.now group.now.face group.now.first group.now.count) self.old self.new }
     {
-        for k in first..first + count {
+        for k in group.first..group.first + group.count {
             let from = k * QUAD_NUMBERS;
             self.quad(Quad {
-                face,
-                quad: handed::quad_from(&quads[from..from + QUAD_NUMBERS]),
+                face: group.face,
+                quad: handed::quad_from(&group.quads[from..from + QUAD_NUMBERS]),
                 number: k as u32,
             });
         }
@@ -140,7 +139,12 @@ pub(crate) fn mesh(mesh: &Mesh, out: &mut [u8]) -> usize
     let mut first = 0;
     for (face, count) in mesh.faces.iter().zip(&mesh.counts) {
         let count = *count as usize;
-        page.group(*face, mesh.quads, first, count);
+        page.group(&Group {
+            face: *face,
+            quads: mesh.quads,
+            first,
+            count,
+        });
         first += count;
     }
     page.at

@@ -30,13 +30,13 @@ loop-face-init c =
     let counts : c.into_iter-face-iterator.result.b.rest.now ≡ c.args.mesh.now.counts = search rules in
     rw (faces, counts) (mesh_ready c.args.mesh.now.passed, leads_start refl)
 
-pub group-requires-clause-group_ready : goal.group-requires-clause-group_ready
-group-requires-clause-group_ready c = let s = c.in-Some.ensures.steps in groups_ready _ s.0 s.1 _ c.loop-face.invariant.0
+pub invariant_of-group : goal.invariant_of-group
+invariant_of-group c = let s = c.in-Some.ensures.steps in record { ready = groups_ready _ s.0 s.1 _ c.loop-face.invariant.0 }
 
-pub group-requires-clause-room : goal.group-requires-clause-room
-group-requires-clause-room c =
+pub group-requires : goal.group-requires
+group-requires c =
     let s = c.in-Some.ensures.steps in
-    let after = room_second _ (room_in_two (goal.at.group-requires-clause-room c).Start refl refl) c.bytes.ensures in
+    let after = room_second _ (room_in_two (goal.at.group-requires c).Start refl refl) c.bytes.ensures in
     room_first _ (room_as (groups_next _ s.0 s.1 _) (leads_room c.loop-face.invariant.1 after))
 
 pub overflow_add-first : goal.overflow_add-first
