@@ -26,7 +26,7 @@ use Rattle.writing.proofs.Rest.{numbered_append, quad_cut, quads_next, quads_don
 use Rattle.writing.proofs.Ordered.{order_passed}
 use Rattle.obj.specs.Text.{quad_text, first_line, text}
 use Rattle.obj.specs.Obj.{obj_text}
-use Rattle.obj.specs.Page.{on, Drawable, GroupReady, group_text}
+use Rattle.obj.specs.Writer.{on, Drawable, GroupReady, group_text}
 use Rattle.obj.proofs.Lengths.{quads_at_most}
 
 -- The quad that stands in the list from a number on.

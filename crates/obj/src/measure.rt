@@ -1,12 +1,9 @@
 // How many bytes the text of a mesh has, and whether it fits an output, before any of it is written.
-ghost use Rattle.std.specs.Prelude.{◌≡◌, ◌*◌, ◌<◌, ◌≤◌, leb, length};
+ghost use Rattle.std.specs.Prelude.{◌≡◌, ◌≤◌, leb, length};
 ghost use Rattle.geometry.specs.Point.{at};
-ghost use Rattle.geometry.specs.Refusal.{accepted, checked};
-ghost use Rattle.greedy.specs.Greedy.{quad_numbers};
-ghost use Rattle.writing.specs.Handed.{total, most_quads, listed_checks};
 ghost use Rattle.obj.specs.Text.{corner_lines, bytes_of, quad_text};
 ghost use Rattle.obj.specs.Obj.{obj_text};
-ghost use Rattle.obj.specs.Page.{on, point_places, triangles_long, Drawable, GroupReady, group_text};
+ghost use Rattle.obj.specs.Writer.{on, point_places, triangles_long, group_text};
 
 use crate::mesh::{Group, Mesh, Quad};
 use geometry::face::CornersAnswer;

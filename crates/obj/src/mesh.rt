@@ -1,8 +1,8 @@
-// A mesh that has passed its checks, and its quads.
+// A mesh that has passed its checks, its groups, and their quads.
 ghost use Rattle.std.specs.Prelude.{◌≡◌, ◌<◌};
 ghost use Rattle.geometry.specs.Refusal.{accepted, checked};
 ghost use Rattle.writing.specs.Handed.{most_quads, total, listed_checks};
-ghost use Rattle.obj.specs.Page.{Drawable, GroupReady, ready_props};
+ghost use Rattle.obj.specs.Writer.{Drawable, GroupReady, ready_props};
 
 use geometry::face::OrientedBlockFace;
 use geometry::quad::UnorientedQuad;

@@ -5,7 +5,7 @@ use Prim.Native.Nat.{◌+◌, ◌*◌, ◌-◌, ◌≤◌}
 use native.Mathlib.Omega.{arith}
 use lib.ListN.{length}
 use Rattle.greedy.specs.Greedy.{quad_numbers}
-use Rattle.obj.specs.Page.{group_text}
+use Rattle.obj.specs.Writer.{group_text}
 use Rattle.obj.proofs.Going.{measured, quad_at, quad_read, group_at_most, ready_drawable, ready_held, ready_on, text_next, text_done}
 use Rattle.obj.proofs.measure.group.Goals as goal
 use Rattle.obj.proofs.measure.group.Goals.{After-quad-length, After-quad_from}

@@ -1,7 +1,7 @@
 use mathlib.Core.Path.{◌≡◌}
 use Prim.Native.Nat.{◌+◌, ◌-◌}
 use lib.ListN.{length}
-use Rattle.obj.specs.Page.{GroupReady, group_text}
+use Rattle.obj.specs.Writer.{GroupReady, group_text}
 use Rattle.obj.proofs.measure.group.Given as goal
 
 abbrev pub invariant-loop-k : goal.invariant-loop-k

@@ -4,21 +4,21 @@ use mathlib.Core.List.{◌++◌}
 use mathlib.Core.Path.{◌≡◌, refl, sym}
 use native.Mathlib.Omega.{arith}
 use Rattle.listing.specs.Listing.{overwritten}
-use Rattle.obj.specs.declared.put.Page.{Page}
+use Rattle.obj.specs.declared.put.Writer.{Writer}
 use Rattle.obj.specs.Text.{first_line}
 use Rattle.obj.specs.Obj.{obj_text}
-use Rattle.obj.specs.Page.{Room}
-use Rattle.obj.proofs.Page.{wrote_both, wrote_as, wrote_whole, room_first, room_second, room_as, leads_start, leads_on, leads_done, leads_room}
+use Rattle.obj.specs.Writer.{Room}
+use Rattle.obj.proofs.Writer.{wrote_both, wrote_as, wrote_whole, room_first, room_second, room_as, leads_start, leads_on, leads_done, leads_room}
 use Rattle.obj.proofs.Going.{groups_text, mesh_ready, mesh_text, groups_next, groups_ready, groups_on, groups_done}
 use Rattle.obj.proofs.put.mesh.Goals as goal
 use Rattle.obj.proofs.put.mesh.Goals.{Start}
 
--- A page of the output as it was has room for the text,
-room : (c : Start) → {p : Page} → p.at ≡ 0 → p.out.now ≡ c.args.out.now → let m = c.args.mesh.now in Room (obj_text m.faces m.counts m.quads.now) p
+-- A writer of the output as it was has room for the text,
+room : (c : Start) → {p : Writer} → p.at ≡ 0 → p.out.now ≡ c.args.out.now → let m = c.args.mesh.now in Room (obj_text m.faces m.counts m.quads.now) p
 room c {p} at out = record { fits = rw (at, out) (omega (arith, c.requires)) }
 
 -- so for the first line and the groups after it.
-room_in_two : (c : Start) → {p : Page} → p.at ≡ 0 → p.out.now ≡ c.args.out.now → let m = c.args.mesh.now in Room (first_line ++ groups_text m.quads.now m.faces m.counts 0) p
+room_in_two : (c : Start) → {p : Writer} → p.at ≡ 0 → p.out.now ≡ c.args.out.now → let m = c.args.mesh.now in Room (first_line ++ groups_text m.quads.now m.faces m.counts 0) p
 room_in_two c at out = let m = c.args.mesh.now in room_as (mesh_text m.quads.now m.faces m.counts) (room c at out)
 
 pub bytes-requires : goal.bytes-requires
@@ -55,6 +55,6 @@ returns c =
     let m = c.args.mesh.now in
     let groups = leads_done c.loop-face.invariant.1 (groups_done _ _ _ _ c.in-None.ensures.steps) in
     let all = wrote_as (sym (mesh_text m.quads.now m.faces m.counts)) (wrote_both c.bytes.ensures groups) in
-    let same : c.loop-face.page.out.ghost_name ≡ _ = all.same in
-    let is : c.loop-face.page.out.now ≡ overwritten (obj_text m.faces m.counts m.quads.now) c.args.out.now = wrote_whole refl (room (goal.at.returns c).Start refl refl) all in
+    let same : c.loop-face.writer.out.ghost_name ≡ _ = all.same in
+    let is : c.loop-face.writer.out.now ≡ overwritten (obj_text m.faces m.counts m.quads.now) c.args.out.now = wrote_whole refl (room (goal.at.returns c).Start refl refl) all in
     record { value = omega (arith, all.at); out_after = search rules }

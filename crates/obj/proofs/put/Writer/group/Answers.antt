@@ -6,9 +6,9 @@ use native.Mathlib.Omega.{arith}
 use lib.ListN.{length}
 use Rattle.greedy.specs.Greedy.{quad_numbers}
 use Rattle.obj.proofs.Going.{quad_at, quad_read, ready_drawable, ready_held, ready_on, text_next, text_done}
-use Rattle.obj.proofs.Page.{leads_start, leads_on, leads_done, leads_room, room_first, room_as}
-use Rattle.obj.proofs.put.Page.group.Goals as goal
-use Rattle.obj.proofs.put.Page.group.Goals.{After-quad_from}
+use Rattle.obj.proofs.Writer.{leads_start, leads_on, leads_done, leads_room, room_first, room_as}
+use Rattle.obj.proofs.put.Writer.group.Goals as goal
+use Rattle.obj.proofs.put.Writer.group.Goals.{After-quad_from}
 
 -- The quad at hand is the list's.
 read : (c : After-quad_from) → c.quad_from.result ≡ quad_at c.args.group.now.quads.now (c.loop-k.k * quad_numbers)

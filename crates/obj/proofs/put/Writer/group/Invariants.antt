@@ -1,7 +1,7 @@
 use Prim.Native.Nat.{◌-◌}
-use Rattle.obj.specs.Page.{GroupReady, group_text}
-use Rattle.obj.proofs.Page.{Leads}
-use Rattle.obj.proofs.put.Page.group.Given as goal
+use Rattle.obj.specs.Writer.{GroupReady, group_text}
+use Rattle.obj.proofs.Writer.{Leads}
+use Rattle.obj.proofs.put.Writer.group.Given as goal
 
 abbrev pub invariant-loop-k : goal.invariant-loop-k
 invariant-loop-k l =
