@@ -5,7 +5,7 @@ use Prim.Native.Nat.{ℕ, zero, suc, ◌+◌, ◌*◌, ◌/◌, ◌≤◌, ◌<�
 use native.Mathlib.Nat.{div-mul-le_self, mul-le-mul_right, add-zero, zero-add, suc-add, add-mul, one-mul, zero-mul, suc-mul, not-suc-le-zero, mul-add-div_right, div-eq_of_lt, div-eq-sub-div, le-div_iff_mul-le}
 use native.Mathlib.Omega.{arith}
 use lib.Dec.{leb, ltb}
-use lib.ListN.{length, length-append, length-drop, take, drop, set, length-set, take-append-drop}
+use lib.ListN.{length, get_or, length-append, length-drop, take, drop, set, length-set, take-append-drop}
 use lib.Seq.{length-take-le}
 use borrow.Rule.Slice.PartMut.{put_mid}
 use borrow.Author.Tests.{lt-ltb, le-ltb, leb-true, leb-false, ltb-true, ltb-false}
@@ -46,6 +46,15 @@ unfolding overwritten
 over_over done first next rest =
     rw (drop_drop (length first) (length next) rest, length-append first next, append_assoc first next (drop (length first + length next) rest))
     (append_assoc done first (next ++ drop (length first + length next) rest))
+
+-- Of the first so many of a list, one more is set.
+pub set_next : (xs out : List ℕ) (at k : ℕ) → k < length xs → set_all out at (take (k + 1) xs) ≡ set (set_all out at (take k xs)) (at + k) (get_or xs k 0)
+unfolding set_all
+set_next [] out at k h = absurd (not-suc-le-zero h)
+set_next (x ∷ xs) out at zero h = rw add-zero
+set_next (x ∷ xs) out at (suc k) h =
+    let next : at + suc k ≡ at + 1 + k = omega arith in
+    rw (suc-add k 1, next) (set_next xs (set out at x) (at + 1) k (omega arith))
 
 -- Numbers set in two lots.
 pub set_all_append : (out : List ℕ) (at : ℕ) (a b : List ℕ) → set_all (set_all out at a) (at + length a) b ≡ set_all out at (a ++ b)

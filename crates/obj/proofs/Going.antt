@@ -26,7 +26,7 @@ use Rattle.writing.proofs.Rest.{numbered_append, quad_cut, quads_next, quads_don
 use Rattle.writing.proofs.Ordered.{order_passed}
 use Rattle.obj.specs.Text.{quad_text, first_line, text}
 use Rattle.obj.specs.Obj.{obj_text}
-use Rattle.obj.specs.Page.{on, Drawable, GroupReady, group_text}
+use Rattle.obj.specs.Writer.{on, Drawable, GroupReady, group_text}
 use Rattle.obj.proofs.Lengths.{quads_at_most}
 
 -- The quad that stands in the list from a number on.
@@ -38,10 +38,10 @@ pub quad_read : (list : List ℕ) (from : ℕ) → quad_from (take (from + quad_
 quad_read list from = quad_cut (from + quad_numbers - from) (drop from list) (omega arith)
 
 -- The lines of a group are at most 138 bytes a quad.
-pub group_at_most : {list : List ℕ} {face : OrientedBlockFace} {first at count : ℕ} → GroupReady list face first at count → length (group_text list face first at count) ≤ 138 * count
-group_at_most {list} {face} {first} {at} {count} ready =
-    let many = quads_count quad_numbers list face at count in
-    omega (arith, quads_at_most first (quads_left quad_numbers list face at count) ready.within (omega (arith, ready.few)), many)
+pub group_at_most : {list : List ℕ} {face : OrientedBlockFace} {first count : ℕ} → GroupReady list face first count → length (group_text list face first count) ≤ 138 * count
+group_at_most {list} {face} {first} {count} ready =
+    let many = quads_count quad_numbers list face (first * quad_numbers) count in
+    omega (arith, quads_at_most first (quads_left quad_numbers list face (first * quad_numbers) count) ready.within (omega (arith, ready.few)), many)
 
 -- What is left, measured: the next of it, and what is left then.
 pub measured : (next rest : List ℕ) {whole : List ℕ} {long : ℕ} → whole ≡ next ++ rest → long ≡ length next → length whole ≡ long + length rest
@@ -56,16 +56,16 @@ module _ (list : List ℕ) (face : OrientedBlockFace) (k end : ℕ) where
 
   -- So with what is written of them,
   pub text_next : k < end → {q : UnorientedQuad} → q ≡ quad_at list (k * quad_numbers)
-      → group_text list face k (k * quad_numbers) (end - k) ≡ quad_text k (on face q) ++ group_text list face (k + 1) ((k + 1) * quad_numbers) (end - (k + 1))
+      → group_text list face k (end - k) ≡ quad_text k (on face q) ++ group_text list face (k + 1) (end - (k + 1))
   unfolding numbered
   text_next h is = rw (next_and_rest h, is)
 
   -- and at the end nothing is left.
-  pub text_done : end ≤ k → group_text list face k (k * quad_numbers) (end - k) ≡ []
+  pub text_done : end ≤ k → group_text list face k (end - k) ≡ []
   unfolding numbered
   text_done h = rw (quads_done quad_numbers list face (k * quad_numbers) k end h)
 
-module _ {list : List ℕ} {face : OrientedBlockFace} {k end : ℕ} (ready : GroupReady list face k (k * quad_numbers) (end - k)) (h : k < end) where
+module _ {list : List ℕ} {face : OrientedBlockFace} {k end : ℕ} (ready : GroupReady list face k (end - k)) (h : k < end) where
   -- The quad at hand can be drawn,
   pub ready_drawable : {q : UnorientedQuad} → q ≡ quad_at list (k * quad_numbers) → Drawable face q
   unfolding Each
@@ -78,7 +78,7 @@ module _ {list : List ℕ} {face : OrientedBlockFace} {k end : ℕ} (ready : Gro
   ready_held = room_enough k (length list) quad_numbers (omega (arith, ready.held))
 
   -- and the others are a group that is ready.
-  pub ready_on : GroupReady list face (k + 1) ((k + 1) * quad_numbers) (end - (k + 1))
+  pub ready_on : GroupReady list face (k + 1) (end - (k + 1))
   unfolding Each
   ready_on =
       let both = rw (next_and_rest list face k end h) at ready.within in
@@ -117,7 +117,7 @@ module _ (list : List ℕ) {faces rest : List OrientedBlockFace} {face : Oriente
       rw (f, n, drop-drop (count * quad_numbers) (first * quad_numbers) list, after)
 
   -- So with what is written of them,
-  pub groups_next : groups_text list faces counts first ≡ group_text list face first (first * quad_numbers) count ++ groups_text list rest behind (first + count)
+  pub groups_next : groups_text list faces counts first ≡ group_text list face first count ++ groups_text list rest behind (first + count)
   groups_next =
       let here : List OrientedQuad = quads_left quad_numbers list face (first * quad_numbers) count in
       let others : List OrientedQuad = mesh_left quad_numbers list ((first + count) * quad_numbers) rest behind in
@@ -127,7 +127,7 @@ module _ (list : List ℕ) {faces rest : List OrientedBlockFace} {face : Oriente
 
   module _ (ready : GroupsReady list faces counts first) where
     -- the next can be drawn,
-    pub groups_ready : GroupReady list face first (first * quad_numbers) count
+    pub groups_ready : GroupReady list face first count
     unfolding Each total
     groups_ready =
         let proper = rw f at ready.proper in

@@ -25,7 +25,7 @@ use Rattle.digits.specs.Decimal.{digits}
 use Rattle.digits.proofs.Digits.{decimal_holds}
 use Rattle.writing.specs.Handed.{OrientedQuad}
 use Rattle.obj.specs.Text.{space, line_feed, f, Line, spaced, bytes, corner_line, triangle_line, first_triangle, second_triangle, corner_lines, triangle_lines, bytes_of, quad_text}
-use Rattle.obj.specs.Page.{ended, line_of, point_places, triangles_long, on}
+use Rattle.obj.specs.Writer.{ended, line_of, point_places, triangles_long, on}
 use Rattle.obj.proofs.Joined.{joined_append}
 
 -- ---- a number

@@ -10,4 +10,5 @@ pub mod Statements
 -- Worked examples.
 pub mod Examples
 -- For private contracts alone:
+pub mod Writer
 pub mod Page

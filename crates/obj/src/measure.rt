@@ -1,15 +1,11 @@
 // How many bytes the text of a mesh has, and whether it fits an output, before any of it is written.
-ghost use Rattle.std.specs.Prelude.{◌≡◌, ◌*◌, ◌<◌, ◌≤◌, leb, length};
+ghost use Rattle.std.specs.Prelude.{◌≡◌, ◌≤◌, leb, length};
 ghost use Rattle.geometry.specs.Point.{at};
-ghost use Rattle.geometry.specs.Refusal.{accepted, checked};
-ghost use Rattle.greedy.specs.Greedy.{quad_numbers};
-ghost use Rattle.writing.specs.Handed.{total, most_quads, listed_checks};
 ghost use Rattle.obj.specs.Text.{corner_lines, bytes_of, quad_text};
 ghost use Rattle.obj.specs.Obj.{obj_text};
-ghost use Rattle.obj.specs.Page.{on, point_places, triangles_long, Drawable, GroupReady, group_text};
+ghost use Rattle.obj.specs.Writer.{on, point_places, triangles_long, group_text};
 
-use crate::mesh::{Mesh, Quad};
-use geometry::face::OrientedBlockFace;
+use crate::mesh::{Group, Mesh, Quad};
 use greedy::QUAD_NUMBERS;
 use writing::handed;
 
@@ -61,17 +57,16 @@ fn quad(quad: Quad) -> usize
     corners(quad) + triangles(quad)
 }
 
-// The lines of a group: so many quads on a face, after so many of the groups before.
-fn group(face: OrientedBlockFace, quads: &[u32], first: usize, count: usize) -> usize
-    requires { GroupReady quads.now face first (first * quad_numbers) count }
-    ensures { result ≡ length (group_text quads.now face first (first * quad_numbers) count) }
+// The lines of a group.
+fn group(group: &Group) -> usize
+    ensures { result ≡ length (group_text group.now.quads.now group.now.face group.now.first group.now.count) }
 {
     let mut length = 0;
-    for k in first..first + count {
+    for k in group.first..group.first + group.count {
         let from = k * QUAD_NUMBERS;
         length += quad(Quad {
-            face,
-            quad: handed::quad_from(&quads[from..from + QUAD_NUMBERS]),
+            face: group.face,
+            quad: handed::quad_from(&group.quads[from..from + QUAD_NUMBERS]),
             number: k as u32,
         });
     }
@@ -86,7 +81,12 @@ fn mesh(mesh: &Mesh) -> usize
     let mut first = 0;
     for (face, count) in mesh.faces.iter().zip(&mesh.counts) {
         let count = *count as usize;
-        length += group(*face, mesh.quads, first, count);
+        length += group(&Group {
+            face: *face,
+            quads: mesh.quads,
+            first,
+            count,
+        });
         first += count;
     }
     length

@@ -1,30 +1,27 @@
 // Writes the text of a mesh, byte after byte, where there is room for it.
-ghost use Rattle.std.specs.Prelude.{◌∷◌, [], ◌≡◌, ◌*◌, ◌+◌, ◌<◌, ◌≤◌, length};
-ghost use Rattle.geometry.specs.Refusal.{accepted, checked};
-ghost use Rattle.greedy.specs.Greedy.{quad_numbers};
+ghost use Rattle.std.specs.Prelude.{◌∷◌, [], ◌≡◌, ◌+◌, ◌<◌, ◌≤◌, length};
 ghost use Rattle.listing.specs.Listing.{overwritten};
-ghost use Rattle.writing.specs.Handed.{most_quads, listed_checks};
 ghost use Rattle.obj.specs.Text as spec;
 ghost use Rattle.obj.specs.Text.{corner_line, triangle_line, corner_lines, triangle_lines, bytes_of, quad_text};
 ghost use Rattle.obj.specs.Obj.{obj_text};
-ghost use Rattle.obj.specs.Page.{Wrote, Room, ended, line_of, on, Drawable, GroupReady, group_text};
+ghost use Rattle.obj.specs.Writer.{Wrote, Room, ended, line_of, on, group_text};
 
-use crate::mesh::{Mesh, Quad};
-use geometry::face::{OrientedBlockFace, VertexIndex};
+use crate::mesh::{Group, Mesh, Quad};
+use geometry::face::VertexIndex;
 use geometry::vector::UVec3;
 use greedy::QUAD_NUMBERS;
 use writing::handed;
 
-// An output, and how many of its bytes are written. Each method writes what it is given behind them.
+// An output, and how many of its bytes are written. Each method writes behind them.
 #[derive(Drop)]
-struct Page<'a> {
+struct Writer<'a> {
     out: &'a mut [u8],
     at: usize,
 }
 
-impl Page<'_> {
-    // Some bytes as they are. The library's copy takes 6 % more instructions for a whole text: it asks at each
-    // line whether the bytes overlap.
+impl Writer<'_> {
+    // Some bytes as they are. With `copy_from_slice`, which asks at each line whether the bytes overlap, a
+    // whole text takes 6 % more instructions (bench/run).
     fn bytes(&mut self, new: &[u8])
         requires { Room new.now self.old }
         ensures { Wrote new.now self.old self.new }
@@ -107,17 +104,16 @@ impl Page<'_> {
         self.triangles(quad);
     }
 
-    // The lines of a group: so many quads on a face, after so many of the groups before.
-    fn group(&mut self, face: OrientedBlockFace, quads: &[u32], first: usize, count: usize)
-        requires group_ready { GroupReady quads.now face first (first * quad_numbers) count }
-        requires room { Room (group_text quads.now face first (first * quad_numbers) count) self.old }
-        ensures { Wrote (group_text quads.now face first (first * quad_numbers) count) self.old self.new }
+    // The lines of a group.
+    fn group(&mut self, group: &Group)
+        requires { Room (group_text group.now.quads.now group.now.face group.now.first group.now.count) self.old }
+        ensures { Wrote (group_text group.now.quads.now group.now.face group.now.first group.now.count) self.old self.new }
     {
-        for k in first..first + count {
+        for k in group.first..group.first + group.count {
             let from = k * QUAD_NUMBERS;
             self.quad(Quad {
-                face,
-                quad: handed::quad_from(&quads[from..from + QUAD_NUMBERS]),
+                face: group.face,
+                quad: handed::quad_from(&group.quads[from..from + QUAD_NUMBERS]),
                 number: k as u32,
             });
         }
@@ -130,13 +126,18 @@ pub(crate) fn mesh(mesh: &Mesh, out: &mut [u8]) -> usize
     ensures value { result ≡ length (obj_text mesh.now.faces mesh.now.counts mesh.now.quads.now) }
     ensures out_after { out.new ≡ overwritten (obj_text mesh.now.faces mesh.now.counts mesh.now.quads.now) out.old }
 {
-    let mut page = Page { out, at: 0 };
-    page.bytes(b"o mesh\n");
+    let mut writer = Writer { out, at: 0 };
+    writer.bytes(b"o mesh\n");
     let mut first = 0;
     for (face, count) in mesh.faces.iter().zip(&mesh.counts) {
         let count = *count as usize;
-        page.group(*face, mesh.quads, first, count);
+        writer.group(&Group {
+            face: *face,
+            quads: mesh.quads,
+            first,
+            count,
+        });
         first += count;
     }
-    page.at
+    writer.at
 }

@@ -15,8 +15,8 @@ loop-face-init c =
     let counts : c.into_iter-face-iterator.result.b.rest.now ≡ m.counts = search rules in
     rw (faces, counts) (mesh_ready m.passed, omega (arith, ap length (mesh_text m.quads.now m.faces m.counts)))
 
-pub group-length-requires : goal.group-length-requires
-group-length-requires c = let s = c.in-Some.ensures.steps in groups_ready _ s.0 s.1 _ c.loop-face.invariant.0
+pub invariant_of-group : goal.invariant_of-group
+invariant_of-group c = let s = c.in-Some.ensures.steps in record { ready = groups_ready _ s.0 s.1 _ c.loop-face.invariant.0 }
 
 pub overflow_add-length : goal.overflow_add-length
 overflow_add-length c =

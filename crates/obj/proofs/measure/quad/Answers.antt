@@ -4,7 +4,7 @@ use Prim.Native.Nat.{◌+◌}
 use native.Mathlib.Omega.{arith}
 use lib.ListN.{length}
 use Rattle.obj.specs.Text.{quad_text}
-use Rattle.obj.specs.Page.{on}
+use Rattle.obj.specs.Writer.{on}
 use Rattle.obj.proofs.Measured.{quad_long, triangles_long_lem}
 use Rattle.obj.proofs.Lengths.{quad_at_most}
 use Rattle.obj.proofs.measure.quad.Goals as goal

@@ -6,28 +6,28 @@ use native.Mathlib.Omega.{arith}
 use lib.ListN.{length}
 use Rattle.greedy.specs.Greedy.{quad_numbers}
 use Rattle.obj.proofs.Going.{quad_at, quad_read, ready_drawable, ready_held, ready_on, text_next, text_done}
-use Rattle.obj.proofs.Page.{leads_start, leads_on, leads_done, leads_room, room_first, room_as}
-use Rattle.obj.proofs.put.Page.group.Goals as goal
-use Rattle.obj.proofs.put.Page.group.Goals.{After-quad_from}
+use Rattle.obj.proofs.Writer.{leads_start, leads_on, leads_done, leads_room, room_first, room_as}
+use Rattle.obj.proofs.put.Writer.group.Goals as goal
+use Rattle.obj.proofs.put.Writer.group.Goals.{After-quad_from}
 
 -- The quad at hand is the list's.
-read : (c : After-quad_from) → c.quad_from.result ≡ quad_at c.args.quads.now (c.loop-k.k * quad_numbers)
-read c = c.quad_from.ensures ∙ quad_read c.args.quads.now (c.loop-k.k * quad_numbers)
+read : (c : After-quad_from) → c.quad_from.result ≡ quad_at c.args.group.now.quads.now (c.loop-k.k * quad_numbers)
+read c = c.quad_from.ensures ∙ quad_read c.args.group.now.quads.now (c.loop-k.k * quad_numbers)
 
 pub loop-k-init : goal.loop-k-init
 loop-k-init c =
-    let a = c.args in
-    let all : a.first + a.count - a.first ≡ a.count = omega arith in
-    (rw all c.requires.group_ready, leads_start (rw all))
+    let g = c.args.group.now in
+    let all : g.first + g.count - g.first ≡ g.count = omega arith in
+    (rw all g.ready, leads_start (rw all))
 
 pub slice_bounds-quad_from-end : goal.slice_bounds-quad_from-end
-slice_bounds-quad_from-end c = let h : c.loop-k.k * quad_numbers + quad_numbers ≤ length c.args.quads.now = ready_held c.loop-k.invariant.0 c.loop-k-test.true in search rules
+slice_bounds-quad_from-end c = let h : c.loop-k.k * quad_numbers + quad_numbers ≤ length c.args.group.now.quads.now = ready_held c.loop-k.invariant.0 c.loop-k-test.true in search rules
 
 pub invariant_of-quad-clause-drawable : goal.invariant_of-quad-clause-drawable
 invariant_of-quad-clause-drawable c = ready_drawable c.loop-k.invariant.0 c.loop-k-test.true (read (goal.at.invariant_of-quad-clause-drawable c).After-quad_from)
 
 pub quad-requires : goal.quad-requires
-quad-requires c = room_first _ (room_as (text_next _ _ _ _ c.loop-k-test.true (read (goal.at.quad-requires c).After-quad_from)) (leads_room c.loop-k.invariant.1 c.requires.room))
+quad-requires c = room_first _ (room_as (text_next _ _ _ _ c.loop-k-test.true (read (goal.at.quad-requires c).After-quad_from)) (leads_room c.loop-k.invariant.1 c.requires))
 
 pub loop-k-preserved : goal.loop-k-preserved
 loop-k-preserved c =

@@ -1,9 +1,9 @@
 -- `triangle` meets its contract: a line that starts with `f` and a space.
 use mathlib.Core.Path.{sym}
 use Rattle.obj.specs.Text.{f}
-use Rattle.obj.proofs.Page.{wrote_as, room_as}
+use Rattle.obj.proofs.Writer.{wrote_as, room_as}
 use Rattle.obj.proofs.Measured.{line_bytes}
-use Rattle.obj.proofs.put.Page.triangle.Goals as goal
+use Rattle.obj.proofs.put.Writer.triangle.Goals as goal
 
 pub line-requires : goal.line-requires
 line-requires c = room_as (line_bytes f _ _ _) c.requires.room

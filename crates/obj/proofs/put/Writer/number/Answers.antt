@@ -8,10 +8,10 @@ use borrow.Rule.Slice.PartMut.{put_mid}
 use lib.ListN.{length}
 use Rattle.digits.specs.Decimal.{digits}
 use Rattle.digits.proofs.Written.{spelled_many, spelled_from}
-use Rattle.obj.specs.Page.{Wrote, Room}
-use Rattle.obj.proofs.Page.{wrote_both, wrote_byte, wrote_length, room_first, room_second}
-use Rattle.obj.proofs.put.Page.number.Goals as goal
-use Rattle.obj.proofs.put.Page.number.Goals.{After-spell}
+use Rattle.obj.specs.Writer.{Wrote, Room}
+use Rattle.obj.proofs.Writer.{wrote_both, wrote_byte, wrote_length, room_first, room_second}
+use Rattle.obj.proofs.put.Writer.number.Goals as goal
+use Rattle.obj.proofs.put.Writer.number.Goals.{After-spell}
 
 -- The digits are written,
 spelled : (c : After-spell)

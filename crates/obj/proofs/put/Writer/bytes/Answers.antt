@@ -3,8 +3,8 @@ use mathlib.Core.Path.{refl}
 use native.Mathlib.Numerals.{add-one}
 use native.Mathlib.Omega.{arith}
 use lib.Seq.{drop-cons}
-use Rattle.obj.proofs.Page.{wrote_byte, leads_start, leads_on}
-use Rattle.obj.proofs.put.Page.bytes.Goals as goal
+use Rattle.obj.proofs.Writer.{wrote_byte, leads_start, leads_on}
+use Rattle.obj.proofs.put.Writer.bytes.Goals as goal
 
 pub loop-byte-init : goal.loop-byte-init
 loop-byte-init c = leads_start refl

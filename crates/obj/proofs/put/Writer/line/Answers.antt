@@ -1,10 +1,10 @@
 -- `line` meets its contract: its start and its three numbers are written one after another.
 use mathlib.Core.List.{◌++◌}
 use Rattle.obj.specs.Text.{space, line_feed}
-use Rattle.obj.specs.Page.{Room, ended}
-use Rattle.obj.proofs.Page.{wrote_both, room_first, room_second}
-use Rattle.obj.proofs.put.Page.line.Goals as goal
-use Rattle.obj.proofs.put.Page.line.Goals.{After-bytes, After-number}
+use Rattle.obj.specs.Writer.{Room, ended}
+use Rattle.obj.proofs.Writer.{wrote_both, room_first, room_second}
+use Rattle.obj.proofs.put.Writer.line.Goals as goal
+use Rattle.obj.proofs.put.Writer.line.Goals.{After-bytes, After-number}
 
 -- After its start there is room for the numbers,
 after_start : (c : After-bytes) → Room (ended c.args.a space ++ (ended c.args.b space ++ ended c.args.c line_feed)) c.bytes.new.self

@@ -2,11 +2,11 @@
 use mathlib.Core.List.{◌++◌}
 use mathlib.Core.Path.{sym}
 use Rattle.obj.specs.Text.{bytes_of, corner_lines, triangle_lines}
-use Rattle.obj.specs.Page.{Room, on}
-use Rattle.obj.proofs.Page.{wrote_both, wrote_as, room_first, room_second, room_as}
+use Rattle.obj.specs.Writer.{Room, on}
+use Rattle.obj.proofs.Writer.{wrote_both, wrote_as, room_first, room_second, room_as}
 use Rattle.obj.proofs.Measured.{quad_cut_in_two}
-use Rattle.obj.proofs.put.Page.quad.Goals as goal
-use Rattle.obj.proofs.put.Page.quad.Goals.{Start}
+use Rattle.obj.proofs.put.Writer.quad.Goals as goal
+use Rattle.obj.proofs.put.Writer.quad.Goals.{Start}
 
 -- There is room for both.
 room : (c : Start) → let q = c.args.quad in Room (bytes_of (corner_lines (on q.face q.quad)) ++ bytes_of (triangle_lines q.number (on q.face q.quad))) c.args.self.now
