@@ -1,27 +1,26 @@
 -- For private contracts: what the code goes by of a file, from a byte on.
-use Rattle.std.specs.Prelude.{Bool, ◌&&◌, List, ◌++◌, map, ◌≡◌, ℕ, ◌+◌, ◌-◌, ◌≤◌, length, take, drop}
+use Rattle.std.specs.Prelude.{Bool, ◌&&◌, List, ◌++◌, map, ◌≡◌, ℕ, ◌+◌, ◌-◌, ◌*◌, ◌≤◌, length, take, drop}
 use Rattle.geometry.specs.declared.quad.UnorientedQuad.{UnorientedQuad}
 use Rattle.geometry.specs.declared.face.OrientedBlockFace.{OrientedBlockFace}
 use Rattle.geometry.specs.Quad.{side_within_limits}
 use Rattle.geometry.specs.Refusal.{Answer, accepted, refused, Check, checked}
 use Rattle.listing.specs.Listing.{joined}
+use Rattle.listing.specs.Cut.{items_in}
 use Rattle.greedy.specs.Call.{quad_from}
 use Rattle.writing.specs.Handed.{on_face, oriented, numbered, bad_quad_at}
 use Rattle.saved.specs.declared.sections.SectionAnswer
-use Rattle.saved.specs.Bytes.{written32, number32, written_all, read_all}
+use Rattle.saved.specs.declared.form.SavedForm.{SavedForm}
+use Rattle.saved.specs.Bytes.{number32, read_all}
 use Rattle.saved.specs.Form.{Form, quad_size, face_byte}
-use Rattle.saved.specs.Layout.{section_bytes}
+use Rattle.saved.specs.Layout.{section_bytes, group_bytes}
 use Rattle.saved.specs.Read.{quad_in, section_checks, groups_in}
 
--- The form of so many numbers a quad and of a mark.
-abbrev pub form_of : ℕ → List ℕ → Form
-form_of numbers mark = record { numbers = numbers; mark = mark }
+abbrev pub form_from : ℕ → List ℕ → Form
+form_from numbers mark = record { numbers = numbers; mark = mark }
 
--- A form that the code is made for: quads of five numbers or a few more, and a short mark.
-pub record FormFits (numbers : ℕ) (mark : List ℕ) : Type 0 where
-  pub five : 5 ≤ numbers
-  pub few : numbers ≤ 6
-  pub short : length mark ≤ 1
+-- The form that the code is handed.
+abbrev pub form_of : SavedForm → Form
+form_of form = record { numbers = form.numbers; mark = form.mark.now }
 
 -- Where a section ends, or a refusal.
 abbrev pub section_meaning : SectionAnswer.SectionAnswer → Answer ℕ
@@ -84,6 +83,6 @@ pub record Walk (numbers : ℕ) (b : List ℕ) (k at : ℕ) : Type 0 where
 abbrev pub head_bytes : List ℕ → List OrientedBlockFace → List ℕ
 head_bytes mark faces = section_bytes (6 + length mark) (map face_byte faces ++ mark)
 
--- The bytes of so many numbers of a list, from one of them on.
-abbrev pub list_bytes : List ℕ → ℕ → ℕ → List ℕ
-list_bytes list from n = written_all written32 (take n (drop from list))
+-- The section of a group: so many quads of a list, after so many of the groups before.
+abbrev pub group_at : ℕ → List ℕ → ℕ → ℕ → List ℕ
+group_at numbers list first count = group_bytes (items_in numbers (take numbers) count (drop (first * numbers) list))

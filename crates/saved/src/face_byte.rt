@@ -29,6 +29,13 @@ pub(crate) fn of_face(face: OrientedBlockFace) -> u8
     number
 }
 
+// The bytes of six faces.
+pub(crate) fn of_faces(faces: [OrientedBlockFace; 6]) -> [u8; 6]
+    ensures { result ≡ map face_byte faces }
+{
+    faces.map(of_face)
+}
+
 // The permutation's number in a byte.
 fn number(byte: u8) -> u32
     ensures { result ≡ without_sign byte }

@@ -7,6 +7,7 @@
 #![tactic(auto)]
 
 mod face_byte;
+mod form;
 mod number;
 mod place;
 mod read;
@@ -19,6 +20,7 @@ ghost use Rattle.saved.specs.Form.{first_form};
 ghost use Rattle.saved.specs.Saved.{read_outcome, read_saved, write_saved};
 ghost use Rattle.saved.specs.Where.{refusal_byte};
 
+use crate::form::SavedForm;
 use geometry::face::OrientedBlockFace;
 use listing::MeshAnswer;
 use writing::handed::QuadsAnswer;
@@ -30,6 +32,12 @@ pub const FILE: u32 = 16;
 
 // How many numbers a quad has: minimum x, y, z, width, height.
 pub const QUAD_NUMBERS: usize = 5;
+
+// The form of these calls: nothing stands after the face bytes.
+const FIRST_FORM: SavedForm = SavedForm {
+    numbers: QUAD_NUMBERS,
+    mark: b"",
+};
 
 // What a reader answers.
 #[derive(Clone, Copy)]
@@ -53,7 +61,7 @@ pub fn write_saved(
 {
     match handed::check_five(faces, counts, quads) {
         QuadsAnswer::Refused(number, place) => written::refused(number, place),
-        QuadsAnswer::Quads(all) => write::write(faces, counts, quads, all, QUAD_NUMBERS, b"", out),
+        QuadsAnswer::Quads(all) => write::write(FIRST_FORM, faces, counts, quads, all, out),
     }
 }
 

@@ -9,7 +9,8 @@ ghost use Rattle.listing.specs.Listing.{overwritten};
 ghost use Rattle.obj.specs.Page.{Wrote, Room};
 ghost use Rattle.saved.specs.Read.{read_checks};
 ghost use Rattle.saved.specs.Saved.{read_answer, read_outcome, read_form};
-ghost use Rattle.saved.specs.Private.{form_of, FormFits, Walk, numbers_at, fits_at, bad_quads_at, groups_at, list_at, bad_groups_at};
+ghost use Rattle.saved.specs.Form.{FormFits};
+ghost use Rattle.saved.specs.Private.{form_from, Walk, numbers_at, fits_at, bad_quads_at, groups_at, list_at, bad_groups_at};
 
 use crate::{ReadAnswer, face_byte, number, sections};
 use geometry::axis::AxisPermutation;
@@ -126,7 +127,7 @@ fn check_groups(
 // 16, then 17, then 12.
 fn check(bytes: &[u8], numbers: usize, mark: &[u8]) -> CheckAnswer
     requires { FormFits numbers mark.now }
-    ensures { check_meaning result ≡ checked (read_checks (form_of numbers mark.now) bytes.now) }
+    ensures { check_meaning result ≡ checked (read_checks (form_from numbers mark.now) bytes.now) }
 {
     match sections::check_file(bytes, numbers, mark) {
         CheckAnswer::Refused(number, place) => {
@@ -205,7 +206,7 @@ fn refused(number: u32, place: u64) -> ReadAnswer
 // Reads a file in the form of so many numbers a quad and of a mark.
 pub(crate) fn read(bytes: &[u8], numbers: usize, mark: &[u8], out: &mut [u32]) -> ReadAnswer
     requires { FormFits numbers mark.now }
-    ensures { read_outcome result out.new ≡ read_form (form_of numbers mark.now) bytes.now out.old }
+    ensures { read_outcome result out.new ≡ read_form (form_from numbers mark.now) bytes.now out.old }
 {
     match check(bytes, numbers, mark) {
         CheckAnswer::Refused(number, place) => {

@@ -4,7 +4,8 @@ ghost use Rattle.std.specs.Prelude.{◌≡◌, [], ◌∷◌, ◌||◌, ◌+◌,
 ghost use Rattle.geometry.specs.Refusal.{checked, answer};
 ghost use Rattle.geometry.specs.Answers.{check_meaning};
 ghost use Rattle.saved.specs.Read.{ends_early, extent_in, bad_file, same_numbers, wrong_head, section_checks, file_checks};
-ghost use Rattle.saved.specs.Private.{FormFits, form_of, section_meaning};
+ghost use Rattle.saved.specs.Form.{FormFits};
+ghost use Rattle.saved.specs.Private.{form_from, section_meaning};
 
 use crate::{FILE, number};
 use geometry::refusal::CheckAnswer;
@@ -53,7 +54,7 @@ fn same_at(bytes: &[u8], at: usize, mark: &[u8]) -> bool
 // Where section 0 ends, which has six face bytes and a form's mark.
 fn head_end(bytes: &[u8], numbers: usize, mark: &[u8]) -> SectionAnswer
     requires { FormFits numbers mark.now }
-    ensures { section_meaning result ≡ answer (bad_file 0 (ends_early 1 bytes.now || wrong_head (form_of numbers mark.now) bytes.now) ∷ []) (4 + extent_in 1 bytes.now) }
+    ensures { section_meaning result ≡ answer (bad_file 0 (ends_early 1 bytes.now || wrong_head (form_from numbers mark.now) bytes.now) ∷ []) (4 + extent_in 1 bytes.now) }
 {
     let end = section_end(bytes, 0, 1, 0);
     match end {
@@ -104,7 +105,7 @@ fn check_sections(bytes: &[u8], start: usize, size: usize) -> CheckAnswer
 // ends early, or bytes after the last.
 pub(crate) fn check_file(bytes: &[u8], numbers: usize, mark: &[u8]) -> CheckAnswer
     requires { FormFits numbers mark.now }
-    ensures { check_meaning result ≡ checked (file_checks (form_of numbers mark.now) bytes.now) }
+    ensures { check_meaning result ≡ checked (file_checks (form_from numbers mark.now) bytes.now) }
 {
     let head = head_end(bytes, numbers, mark);
     match head {

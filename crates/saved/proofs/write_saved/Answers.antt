@@ -34,7 +34,7 @@ summed c =
     sym (accepts_value (five_checks a.faces a.counts a.quads.now) (total a.counts) (sym c.check_five.ensures ∙ ap quads_meaning c.in-Quads.is))
 
 pub write-requires : goal.write-requires
-write-requires c = record { form_fits = record { five = omega arith; few = omega arith; short = omega arith }; quads_value = passed (goal.at.write-requires c).In-Quads; all_value = summed (goal.at.write-requires c).In-Quads }
+write-requires c = record { quads_value = passed (goal.at.write-requires c).In-Quads; all_value = summed (goal.at.write-requires c).In-Quads }
 
 pub returns-in-Refused : goal.returns-in-Refused
 returns-in-Refused c =

@@ -1,41 +1,47 @@
--- `group` meets its contract: its count, and then the numbers of its quads.
-use mathlib.Core.Path.{sym}
-use Prim.Native.Nat.{ℕ, ◌+◌, ◌*◌, ◌≤◌}
+-- `group` meets its contract: its quads are the list's, and their bytes follow their count.
+use Rattle.std.proofs.Common.{rules, ◌≡◌, ℕ, ◌+◌, ◌*◌, ◌-◌, ◌≤◌, ◌++◌, length, take, drop, sym, ap, ◌∙◌, arith, length-drop, length-take-le}
 use native.Mathlib.Nat.{add-mul}
-use native.Mathlib.Omega.{arith}
-use lib.ListN.{length}
-use Rattle.listing.specs.Listing.{capacity}
-use Rattle.obj.proofs.Page.{wrote_both, wrote_as, room_first, room_second, room_as}
 use Rattle.writing.proofs.Rest.{group_held}
-use Rattle.saved.specs.Private.{list_bytes}
-use Rattle.saved.proofs.Writing.{group_flat}
+use Rattle.saved.specs.Bytes.{written32, written_all}
+use Rattle.saved.proofs.Numbers.{written_length}
+use Rattle.saved.proofs.Writing.{group_flat, group_long, numbers_long, held_numbers}
 use Rattle.saved.proofs.write.group.Goals as goal
 use Rattle.saved.proofs.write.group.Goals.{Start}
 
--- The numbers of quads that a list holds are the list's.
-both_held : (numbers long first count : ℕ) → first + count ≤ capacity numbers long → first * numbers + count * numbers ≤ long
-both_held numbers long first count h = omega (arith, group_held numbers long (first + count) h, add-mul first count numbers)
-
-held : (c : Start) → c.args.first * c.args.numbers_each + c.args.count * c.args.numbers_each ≤ length c.args.quads.now
-held c = both_held c.args.numbers_each (length c.args.quads.now) c.args.first c.args.count c.requires.count_bound
+-- The group's numbers are the list's.
+held : (c : Start) → c.args.first * c.args.form.numbers + c.args.count * c.args.form.numbers ≤ length c.args.quads.now
+held c = let a = c.args in held_numbers a.form.numbers a.quads.now a.first a.count c.requires.count_bound
 
 pub overflow_mul-from : goal.overflow_mul-from
-overflow_mul-from c = record { fits = omega (arith, held (goal.at.overflow_mul-from c).Start) }
+overflow_mul-from c = let h = held (goal.at.overflow_mul-from c).Start in search rules
 
-pub overflow_mul-all : goal.overflow_mul-all
-overflow_mul-all c = record { fits = omega (arith, held (goal.at.overflow_mul-all c).Start) }
+pub overflow_add-end : goal.overflow_add-end
+overflow_add-end c = let h = held (goal.at.overflow_add-end c).Start in search rules
 
-pub put-next-requires : goal.put-next-requires
-put-next-requires c =
-    let a = c.args in
-    room_first (list_bytes a.quads.now (a.first * a.numbers_each) (a.count * a.numbers_each)) (room_as (group_flat a.numbers_each a.quads.now a.first a.count) c.requires.room)
+pub split_at_mut-head-requires : goal.split_at_mut-head-requires
+split_at_mut-head-requires c = let a = c.args in
+    omega (arith, c.requires.exact, group_long a.form.numbers a.quads.now a.first a.count (held (goal.at.split_at_mut-head-requires c).Start))
+
+pub offset_bounds-quads-from : goal.offset_bounds-quads-from
+offset_bounds-quads-from c = let h = held (goal.at.offset_bounds-quads-from c).Start in search rules
+
+pub slice_bounds-numbers-end : goal.slice_bounds-numbers-end
+slice_bounds-numbers-end c = let h = held (goal.at.slice_bounds-numbers-end c).Start in search rules
+
+-- What is lent of the list is so many numbers.
+many : (a b : ℕ) → a + b - a ≡ b
+many a b = omega arith
 
 pub numbers-requires : goal.numbers-requires
 numbers-requires c =
     let a = c.args in
-    record { count_in_bounds = held (goal.at.numbers-requires c).Start; room = room_second (list_bytes a.quads.now (a.first * a.numbers_each) (a.count * a.numbers_each)) (room_as (group_flat a.numbers_each a.quads.now a.first a.count) c.requires.room) c.put-next.ensures }
+    let from = a.first * a.form.numbers in
+    let n = a.count * a.form.numbers in
+    let h = held (goal.at.numbers-requires c).Start in
+    rw (many from n, length-take-le n (drop from a.quads.now) (rw length-drop (omega (arith, h))))
+    (omega (arith, c.split_at_mut-head.ensures.back_len, c.requires.exact, group_long a.form.numbers a.quads.now a.first a.count h))
 
 pub returns : goal.returns
 returns c =
     let a = c.args in
-    wrote_as (sym (group_flat a.numbers_each a.quads.now a.first a.count)) (wrote_both c.put-next.ensures c.numbers.ensures)
+    rw (c.put.ensures, c.numbers.ensures, many (a.first * a.form.numbers) (a.count * a.form.numbers)) (sym (group_flat a.form.numbers a.quads.now a.first a.count))

@@ -1,74 +1,112 @@
--- `mesh` meets its contract: what is left, written after what is written, is all of the file.
-use mathlib.Core.List.{◌++◌}
-use mathlib.Core.Path.{◌≡◌, refl, sym, ◌∙◌}
-use Prim.Native.Nat.{◌+◌}
-use native.Mathlib.Omega.{arith}
-use lib.ListN.{get_or}
-use Rattle.obj.specs.Page.{Room}
+-- `mesh` meets its contract: after section 0 what is written of the groups and what is left are all of them.
+use Rattle.std.proofs.Common.{rules, ◌≡◌, ℕ, ◌+◌, ◌*◌, ◌-◌, ◌≤◌, ◌<◌, List, ◌++◌, length, take, drop, get_or, refl, sym, ap, ◌∙◌, arith, length-append, length-drop, length-take-le}
 use Rattle.writing.specs.Statements.{Passes}
-use Rattle.obj.proofs.Page.{leads_start, leads_on, leads_done, leads_length, leads_room, room_first, room_second, room_as, wrote_both, wrote_as, wrote_length}
 use Rattle.writing.proofs.Rest.{Walking, walking_start, walking_on}
 use Rattle.writing.proofs.Ordered.{order_passed}
-use Rattle.saved.specs.Private.{head_bytes}
-use Rattle.saved.proofs.Writing.{group_at, groups_left, file_start, groups_next, groups_done, groups_held, groups_few, group_few}
+use Rattle.saved.specs.Private.{form_of, head_bytes, group_at}
+use Rattle.saved.specs.Saved.{file_of}
+use Rattle.saved.proofs.Filling.{filled_start, filled_room, filled_part, filled_done}
+use Rattle.saved.proofs.Writing.{group_long, held_numbers, groups_left, file_start, head_long, groups_next, groups_done, groups_held, groups_few, group_few}
 use Rattle.saved.proofs.write.mesh.Goals as goal
-use Rattle.saved.proofs.write.mesh.Goals.{In-loop-k, Start}
+use Rattle.saved.proofs.write.mesh.Goals.{In-loop-count, Start}
 
--- There is room for the file,
-room : (c : Start) → Room (head_bytes c.args.mark.now c.args.faces ++ groups_left c.args.numbers_each c.args.quads.now c.args.counts 0 0) c.args.out.now 0
-room c = room_as (file_start c.args.numbers_each c.args.quads.now c.args.counts c.args.mark.now c.args.faces) c.requires.room
+-- So long the file is: section 0, and the groups.
+long : (c : Start) → length c.args.out.now ≡ 10 + length c.args.form.mark.now + length (groups_left c.args.form.numbers c.args.quads.now c.args.counts 0 0)
+long c =
+    let a = c.args in
+    let left = groups_left a.form.numbers a.quads.now a.counts 0 0 in
+    omega (arith, c.requires.exact, ap length (file_start a.form.numbers a.quads.now a.counts a.form.mark.now a.faces), length-append (head_bytes a.form.mark.now a.faces) left, head_long a.form.mark.now a.faces (search rules))
 
--- and the mesh passes.
-passes : (c : Start) → Passes c.args.numbers_each c.args.faces c.args.counts c.args.quads.now
-passes c = order_passed c.args.numbers_each c.args.faces c.args.counts c.args.quads.now c.requires.quads_value
+-- The mesh passes.
+passes : (c : In-loop-count) → Passes c.args.form.numbers c.args.faces c.args.counts c.args.quads.now
+passes c = order_passed c.args.form.numbers c.args.faces c.args.counts c.args.quads.now c.requires.quads_value
 
 -- Where the loop stands.
-walking : (c : In-loop-k)
-    → let a = c.args in
-    Walking a.faces a.counts c.loop-k.first c.loop-k.k
-walking c =
-    c.loop-k.invariant.0 c.args.faces c.well_formed.0.1.0.1
+walking : (c : In-loop-count) → Walking c.args.faces c.args.counts c.loop-count.first c.loop-count.count-index
+walking c = c.loop-count.invariant.0 c.args.faces (search rules)
 
 -- What is left to write is the section of the group at hand, and those after it.
-next : (c : In-loop-k)
-    → let a = c.args in
-    let l = c.loop-k in
-    groups_left a.numbers_each a.quads.now a.counts l.first l.k
-    ≡ group_at a.numbers_each a.quads.now l.first (get_or a.counts l.k 0) ++ groups_left a.numbers_each a.quads.now a.counts (l.first + get_or a.counts l.k 0) (l.k + 1)
+abbrev count : (c : In-loop-count) → ℕ
+count c = get_or c.args.counts c.loop-count.count-index 0
+
+abbrev here : (c : In-loop-count) → List ℕ
+here c = group_at c.args.form.numbers c.args.quads.now c.loop-count.first (count c)
+
+abbrev after : (c : In-loop-count) → List ℕ
+after c = groups_left c.args.form.numbers c.args.quads.now c.args.counts (c.loop-count.first + count c) (c.loop-count.count-index + 1)
+
+next : (c : In-loop-count) → groups_left c.args.form.numbers c.args.quads.now c.args.counts c.loop-count.first c.loop-count.count-index ≡ here c ++ after c
 next c =
+    groups_next c.args.form.numbers c.args.quads.now c.args.counts c.loop-count.first c.loop-count.count-index (omega (arith, (walking c).counts_six, c.loop-count-test.true))
+
+-- So many bytes are lent for it.
+sized : (c : In-loop-count) → 4 + count c * c.quad_size-size.result ≡ length (here c)
+sized c =
     let a = c.args in
-    groups_next a.numbers_each a.quads.now a.counts c.loop-k.first c.loop-k.k (omega (arith, c.well_formed.1.0.1.0.1, c.loop-k-test.true))
+    let held = held_numbers a.form.numbers a.quads.now c.loop-count.first (count c) (groups_held (passes c) (walking c) c.loop-count-test.true) in
+    rw c.quad_size-size.ensures (omega (arith, group_long a.form.numbers a.quads.now c.loop-count.first (count c) held))
 
-pub head-next-requires : goal.head-next-requires
-head-next-requires c = record { mark_len_bound = c.requires.form_fits.short; room = room_first (groups_left c.args.numbers_each c.args.quads.now c.args.counts 0 0) (room (goal.at.head-next-requires c).Start) }
+room : (c : In-loop-count) → c.loop-count.at + length (here c) ≤ length c.loop-count.groups
+room c = filled_room c.loop-count.invariant.1 (here c) (after c) (next c)
 
-pub loop-k-init : goal.loop-k-init
-loop-k-init c = (λ faces six. walking_start six c.well_formed.1.0.1.0.1, leads_start refl)
+pub split_at_mut-section_0-requires : goal.split_at_mut-section_0-requires
+split_at_mut-section_0-requires c = omega (arith, long (goal.at.split_at_mut-section_0-requires c).Start)
 
-pub group-next-requires : goal.group-next-requires
-group-next-requires c =
-    let l = c.loop-k in
-    let a = c.args in
-    let here = group_at a.numbers_each a.quads.now l.first (get_or a.counts l.k 0) in
-    let rest = groups_left a.numbers_each a.quads.now a.counts (l.first + get_or a.counts l.k 0) (l.k + 1) in
-    let left = leads_room l.invariant.1 (room_second (groups_left a.numbers_each a.quads.now a.counts 0 0) (room (goal.at.group-next-requires c).Start) c.head-next.ensures) in record { count_bound = groups_held (passes (goal.at.group-next-requires c).Start) (walking (goal.at.group-next-requires c).In-loop-k) c.loop-k-test.true; count_le_most_quads = group_few (passes (goal.at.group-next-requires c).Start) (walking (goal.at.group-next-requires c).In-loop-k) c.loop-k-test.true; room = room_first {a = here} rest (room_as (next (goal.at.group-next-requires c).In-loop-k) left) }
+pub loop-count-init : goal.loop-count-init
+loop-count-init c = (
+  λ faces six. walking_start six (search rules),
+  filled_start refl (omega (arith, c.split_at_mut-section_0.ensures.back_len, long (goal.at.loop-count-init c).Start)),
+)
+
+pub overflow_mul-end : goal.overflow_mul-end
+overflow_mul-end c =
+    let s = sized c in
+    let r = room c in
+    search rules
+
+pub overflow_add-end-in-loop-count : goal.overflow_add-end-in-loop-count
+overflow_add-end-in-loop-count c =
+    let s = sized c in
+    let r = room c in
+    search rules
+
+pub slice_bounds-group-end : goal.slice_bounds-group-end
+slice_bounds-group-end c =
+    let s = sized c in
+    let r = room c in
+    search rules
+
+-- What is lent is so long.
+lent : (at n : ℕ) (l : List ℕ) → at + 4 + n ≤ length l → length (take (at + 4 + n - at) (drop at l)) ≡ 4 + n
+lent at n l h = let all : at + 4 + n - at ≡ 4 + n = omega arith in rw all (length-take-le (4 + n) (drop at l) (rw length-drop (omega arith)))
+
+pub group-requires : goal.group-requires
+group-requires c =
+    let in_loop = (goal.at.group-requires c).In-loop-count in
+    record {
+      count_bound = groups_held (passes in_loop) (walking in_loop) c.loop-count-test.true;
+      count_le_most_quads = group_few (passes in_loop) (walking in_loop) c.loop-count-test.true;
+      exact = lent c.loop-count.at _ c.loop-count.groups (omega (arith, sized in_loop, room in_loop)) ∙ sized in_loop;
+    }
 
 pub overflow_add-first : goal.overflow_add-first
-overflow_add-first c = record { fits = omega (arith, groups_few (passes (goal.at.overflow_add-first c).Start) (walking (goal.at.overflow_add-first c).In-loop-k) c.loop-k-test.true) }
+overflow_add-first c =
+    let in_loop = (goal.at.overflow_add-first c).In-loop-count in
+    let few = groups_few (passes in_loop) (walking in_loop) c.loop-count-test.true in
+    record { fits = omega (arith, few) }
 
-pub loop-k-preserved : goal.loop-k-preserved
-loop-k-preserved c =
-    let l = c.loop-k in
-    let a = c.args in
-    let here = group_at a.numbers_each a.quads.now l.first (get_or a.counts l.k 0) in
-    (λ faces six. walking_on (l.invariant.0 faces six) c.loop-k-test.true, leads_on l.invariant.1 {a = here} (next (goal.at.loop-k-preserved c).In-loop-k) c.group-next.ensures)
-
-pub shape_of-out : goal.shape_of-out
-shape_of-out c = leads_length c.loop-k.invariant.1 ∙ wrote_length c.head-next.ensures
+pub loop-count-preserved : goal.loop-count-preserved
+loop-count-preserved c =
+    let in_loop = (goal.at.loop-count-preserved c).In-loop-count in
+    (
+      λ faces six. walking_on (c.loop-count.invariant.0 faces six) c.loop-count-test.true,
+      filled_part c.loop-count.invariant.1 (here in_loop) (after in_loop) _ _ (next in_loop) c.group.ensures (omega (arith, sized in_loop)) (omega (arith, sized in_loop)),
+    )
 
 pub returns : goal.returns
 returns c =
-    let l = c.loop-k in
     let a = c.args in
-    wrote_as (sym (file_start a.numbers_each a.quads.now a.counts a.mark.now a.faces))
-    (wrote_both c.head-next.ensures (leads_done l.invariant.1 (groups_done a.numbers_each a.quads.now a.counts l.first l.k (omega (arith, c.well_formed.1.0.1.0.1, c.loop-k-test.false)))))
+    let l = c.loop-count in
+    let six : length a.counts ≡ 6 = search rules in
+    rw (c.head.ensures, filled_done l.invariant.1 (groups_done a.form.numbers a.quads.now a.counts l.first l.count-index (omega (arith, six, c.loop-count-test.false))))
+    (sym (file_start a.form.numbers a.quads.now a.counts a.form.mark.now a.faces))
