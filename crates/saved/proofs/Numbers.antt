@@ -4,10 +4,9 @@ use mathlib.Core.Path.{◌≡◌, refl, ap}
 use Prim.Native.Nat.{ℕ, zero, suc, ◌+◌, ◌*◌, ◌/◌, ◌%◌, ◌≤◌, ◌<◌, ◌^◌}
 use native.Mathlib.Nat.{pow-suc, not-suc-le-zero}
 use native.Mathlib.Omega.{arith}
-use lib.ListN.{length, get_or, take, drop, set}
+use lib.ListN.{length, get_or, take}
 use Rattle.std.specs.Int.{w32, to_le_bytes}
 use Rattle.geometry.specs.Lists.{Each}
-use Rattle.voxels.proofs.Asked.{drop_next}
 use Rattle.saved.specs.Bytes.{Bytes, written, number, written32, number32}
 
 -- A number has as many bytes as it is written in,

@@ -1,5 +1,5 @@
 // A form of such files: what differs between one and another.
-ghost use Rattle.std.specs.Prelude.{◌≡◌};
+ghost use Rattle.std.specs.Prelude.{◌≡◌, ◌+◌, length};
 ghost use Rattle.saved.specs.Form.{FormFits, quad_size};
 
 use crate::number;
@@ -18,5 +18,11 @@ impl SavedForm {
         ensures { result ≡ quad_size self.numbers }
     {
         self.numbers * number::BYTES
+    }
+    // Where the sections of quads begin: after section 0's count, its face bytes and the mark.
+    pub(crate) fn first_quads(self) -> usize
+        ensures { result ≡ 10 + length self.mark.now }
+    {
+        10 + self.mark.len()
     }
 }

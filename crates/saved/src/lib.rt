@@ -70,7 +70,7 @@ pub fn write_saved(
 pub fn read_saved(bytes: &[u8], out: &mut [u32]) -> ReadAnswer
     ensures { read_outcome result out.new ≡ read_saved bytes.now out.old }
 {
-    read::read(bytes, QUAD_NUMBERS, b"", out)
+    read::read(FIRST_FORM, bytes, out)
 }
 
 // The byte of a file where a refusal of `read_saved` stands: 16, where the section's count begins, or
@@ -79,5 +79,5 @@ pub fn read_saved(bytes: &[u8], out: &mut [u32]) -> ReadAnswer
 pub fn refusal_byte(bytes: &[u8], refusal: u32, place: u64) -> u64
     ensures { result ≡ refusal_byte first_form refusal place bytes.now }
 {
-    place::byte(bytes, QUAD_NUMBERS, refusal, place)
+    place::byte(FIRST_FORM, bytes, refusal, place)
 }

@@ -1,5 +1,5 @@
 // Numbers of 32 bits in bytes, low byte first.
-ghost use Rattle.std.specs.Prelude.{◌≡◌, ◌+◌, ◌≤◌, length, drop};
+ghost use Rattle.std.specs.Prelude.{◌≡◌, ◌≤◌, length};
 ghost use Rattle.saved.specs.Bytes.{number32, written32};
 
 // How many bytes a number has.
@@ -19,12 +19,4 @@ pub(crate) fn put(n: u32, out: &mut [u8])
     ensures { out.new ≡ written32 n }
 {
     out.copy_from_slice(&n.to_le_bytes());
-}
-
-// The number at a place.
-pub(crate) fn at(bytes: &[u8], place: usize) -> u32
-    requires { place + 4 ≤ length bytes.now }
-    ensures { result ≡ number32 (drop place bytes.now) }
-{
-    get(&bytes[place..])
 }

@@ -68,7 +68,7 @@ fn mesh(
     requires exact { length out.old ≡ length (file_of (form_of form) faces counts quads.now) }
     ensures { out.new ≡ file_of (form_of form) faces counts quads.now }
 {
-    let (section_0, groups) = out.split_at_mut(10 + form.mark.len());
+    let (section_0, groups) = out.split_at_mut(form.first_quads());
     head(form, faces, section_0);
     let size = form.quad_size();
     let mut at: usize = 0;

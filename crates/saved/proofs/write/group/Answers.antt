@@ -1,10 +1,6 @@
 -- `group` meets its contract: its quads are the list's, and their bytes follow their count.
-use Rattle.std.proofs.Common.{rules, ◌≡◌, ℕ, ◌+◌, ◌*◌, ◌-◌, ◌≤◌, ◌++◌, length, take, drop, sym, ap, ◌∙◌, arith, length-drop, length-take-le}
-use native.Mathlib.Nat.{add-mul}
-use Rattle.writing.proofs.Rest.{group_held}
-use Rattle.saved.specs.Bytes.{written32, written_all}
-use Rattle.saved.proofs.Numbers.{written_length}
-use Rattle.saved.proofs.Writing.{group_flat, group_long, numbers_long, held_numbers}
+use Rattle.std.proofs.Common.{rules, ◌≡◌, ℕ, ◌+◌, ◌*◌, ◌-◌, ◌≤◌, length, drop, sym, arith, length-drop, length-take-le}
+use Rattle.saved.proofs.Writing.{group_flat, group_long, held_numbers}
 use Rattle.saved.proofs.write.group.Goals as goal
 use Rattle.saved.proofs.write.group.Goals.{Start}
 

@@ -1,10 +1,9 @@
 -- `mesh` meets its contract: after section 0 what is written of the groups and what is left are all of them.
-use Rattle.std.proofs.Common.{rules, ◌≡◌, ℕ, ◌+◌, ◌*◌, ◌-◌, ◌≤◌, ◌<◌, List, ◌++◌, length, take, drop, get_or, refl, sym, ap, ◌∙◌, arith, length-append, length-drop, length-take-le}
+use Rattle.std.proofs.Common.{rules, ◌≡◌, ℕ, ◌+◌, ◌*◌, ◌-◌, ◌≤◌, List, ◌++◌, length, take, drop, get_or, refl, sym, ap, ◌∙◌, arith, length-append, length-drop, length-take-le}
 use Rattle.writing.specs.Statements.{Passes}
 use Rattle.writing.proofs.Rest.{Walking, walking_start, walking_on}
 use Rattle.writing.proofs.Ordered.{order_passed}
-use Rattle.saved.specs.Private.{form_of, head_bytes, group_at}
-use Rattle.saved.specs.Saved.{file_of}
+use Rattle.saved.specs.Private.{head_bytes, group_at}
 use Rattle.saved.proofs.Filling.{filled_start, filled_room, filled_part, filled_done}
 use Rattle.saved.proofs.Writing.{group_long, held_numbers, groups_left, file_start, head_long, groups_next, groups_done, groups_held, groups_few, group_few}
 use Rattle.saved.proofs.write.mesh.Goals as goal
@@ -97,8 +96,7 @@ overflow_add-first c =
 
 pub loop-count-preserved : goal.loop-count-preserved
 loop-count-preserved c =
-    let in_loop = (goal.at.loop-count-preserved c).In-loop-count in
-    (
+    let in_loop = (goal.at.loop-count-preserved c).In-loop-count in (
       λ faces six. walking_on (c.loop-count.invariant.0 faces six) c.loop-count-test.true,
       filled_part c.loop-count.invariant.1 (here in_loop) (after in_loop) _ _ (next in_loop) c.group.ensures (omega (arith, sized in_loop)) (omega (arith, sized in_loop)),
     )

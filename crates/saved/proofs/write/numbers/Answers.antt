@@ -1,5 +1,5 @@
 -- `numbers` meets its contract: what is written and what is left are all of it.
-use Rattle.std.proofs.Common.{◌+◌, ◌*◌, drop, get_or, refl, arith}
+use Rattle.std.proofs.Common.{◌+◌, drop, get_or, refl, arith}
 use Rattle.saved.specs.Bytes.{written32, written_all}
 use Rattle.saved.proofs.Numbers.{written_length}
 use Rattle.saved.proofs.Filling.{filled_start, filled_part, filled_done}

@@ -10,7 +10,7 @@ use Rattle.writing.specs.Written.{outcome, refused_answer, accepted_answer}
 use Rattle.writing.specs.Statements.{Passes}
 use Rattle.writing.proofs.Ordered.{order_passed}
 use Rattle.writing.proofs.Outcome.{short_refused, enough_written}
-use Rattle.saved.specs.Form.{Form, quad_size}
+use Rattle.saved.specs.Form.{Form}
 use Rattle.saved.specs.Saved.{file_of, write_form}
 use Rattle.saved.specs.Private.{form_of}
 use Rattle.saved.proofs.Size.{handed_size}
