@@ -2,7 +2,7 @@
 use mathlib.Core.Bool.{Bool, true, false, not, ◌||◌, or-true}
 use mathlib.Core.List.{List, [], ◌∷◌}
 use mathlib.Core.Path.{◌≡◌, refl, sym, ◌∙◌}
-use Prim.Native.Nat.{ℕ, ◌+◌, ◌-◌, ◌*◌, ◌≤◌, ◌<◌}
+use Prim.Native.Nat.{ℕ, min, ◌+◌, ◌-◌, ◌*◌, ◌≤◌, ◌<◌}
 use native.Mathlib.Nat.{mul-one}
 use native.Mathlib.Omega.{arith}
 use lib.Dec.{eqb, ltb}
@@ -32,17 +32,16 @@ pub early_count : (size : ℕ) (b : List ℕ) → length b < 4 → ends_early si
 unfolding ends_early
 early_count size b h = rw (lt-ltb (length b) 4 h)
 
--- or where its records are not; any other is followed by what is left after both.
-pub follows : (size : ℕ) (b : List ℕ) {n : ℕ} {records : List ℕ} (r : Option (Bor (List ℕ))) → 4 ≤ length b → records ≡ drop 4 b → n ≡ count_in b → IsGetRangeResult records (n * size) (length records) r
-    → MatchOption r (ends_early size b ≡ true) (λ rest. (ends_early size b ≡ false) × (rest.now ≡ after_section size b))
+-- or where its records are not; any other is followed by what is left after both. Where so many bytes are more than can be counted there are fewer.
+pub follows : (size : ℕ) (b : List ℕ) {n m : ℕ} {records : List ℕ} (r : Option (Bor (List ℕ))) → 4 ≤ length b → records ≡ drop 4 b → n ≡ count_in b → m ≡ min (n * size) 18_446_744_073_709_551_615 → length records < 18_446_744_073_709_551_615
+    → IsGetRangeResult records m (length records) r → MatchOption r (ends_early size b ≡ true) (λ rest. ends_early size b ≡ false × rest.now ≡ after_section size b)
 unfolding ends_early after_section
-follows size b {n} {records} None h is-records is got =
-    let few : length records < n * size = elim got.0 [ inl l ↦ l | inr l ↦ absurd (omega arith) ] in
+follows size b {n} {m} {records} None h is-records is counted short got =
+    let few : length records < n * size = elim got.0 [ inl l ↦ omega arith | inr l ↦ absurd (omega arith) ] in
     rw (lt-ltb (length (drop 4 b)) (extent_in size b) (rw (is-records, is) at few)) (or-true (ltb (length b) 4))
-follows size b {n} {records} (Some rest) h is-records is got = (
-  whole size b h (rw (is-records, is) at got.0.0),
-  rw (is, is-records) at (got.0.2 ∙ take_rest records (n * size)),
-)
+follows size b {n} {m} {records} (Some rest) h is-records is counted short got =
+    let all : m ≡ n * size = omega (arith, got.0.0) in
+    (whole size b h (rw (all, is-records, is) at got.0.0), rw (all, is, is-records) at (got.0.2 ∙ take_rest records m))
 
 -- ---- the loop over sections
 

@@ -67,6 +67,3 @@ module _ (numbers k : ℕ) (b : List ℕ) where
   pub numbers_none : 6 ≤ k → numbers_left numbers k b ≡ []
   unfolding joined
   numbers_none h = ap (λ (gs : List (List (List ℕ))). joined (joined gs)) (groups_none numbers k b h)
-
-  pub counts_none : 6 ≤ k → counts_left numbers k b ≡ []
-  counts_none h = ap (map length) (groups_none numbers k b h)

@@ -1,6 +1,6 @@
 // Where in a file a refusal of its reader stands. Each function answers what is left of the file from
 // there on, which is nothing where it has no such byte.
-ghost use Rattle.std.specs.Prelude.{◌≡◌, ◌*◌, ◌^◌, ◌<◌, ◌≤◌, drop};
+ghost use Rattle.std.specs.Prelude.{◌≡◌, ◌*◌, drop};
 ghost use Rattle.saved.specs.Read.{after_section};
 ghost use Rattle.saved.specs.Where as spec;
 ghost use Rattle.saved.specs.Where.{from_section, from_face, from_quad, from_refusal};
@@ -22,16 +22,13 @@ fn past(bytes: &[u8], n: usize) -> &[u8]
 
 // What is left after so many records.
 fn within(bytes: &[u8], size: usize, records: usize) -> &[u8]
-    requires le_size { size ≤ 24 }
-    requires records_bound { records < 2 ^ 32 }
     ensures { result.now ≡ drop (records * size) bytes.now }
 {
-    past(bytes, records * size)
+    past(bytes, records.saturating_mul(size))
 }
 
 // What is left after a section.
 fn after(bytes: &[u8], size: usize) -> &[u8]
-    requires { size ≤ 24 }
     ensures { result.now ≡ after_section size bytes.now }
 {
     if bytes.len() < 4 {

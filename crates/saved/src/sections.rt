@@ -1,6 +1,6 @@
 // A file's sections: "sections in a fixed order, each after its count". Which of them ends early, and
 // whether bytes follow the last.
-ghost use Rattle.std.specs.Prelude.{◌≡◌, true, false, MatchOption, ◌||◌, ◌≤◌};
+ghost use Rattle.std.specs.Prelude.{◌≡◌, true, false, MatchOption, ◌||◌};
 ghost use Rattle.geometry.specs.Refusal.{checked};
 ghost use Rattle.geometry.specs.Answers.{check_meaning};
 ghost use Rattle.saved.specs.Read.{count_in, records_in, after_section, ends_early, wrong_head, section_checks, file_checks};
@@ -12,12 +12,11 @@ use geometry::refusal::CheckAnswer;
 
 // What follows a section whose records have so many bytes each, or none where it ends early.
 fn after(bytes: &[u8], size: usize) -> Option<&[u8]>
-    requires { size ≤ 24 }
     ensures { MatchOption result (ends_early size bytes.now ≡ true) (λ rest. (ends_early size bytes.now ≡ false) × (rest.now ≡ after_section size bytes.now)) }
 {
     let records = bytes.get(4..)?;
     let count = number::get(bytes) as usize;
-    records.get(count * size..)
+    records.get(count.saturating_mul(size)..)
 }
 
 // A section that does not end early.
@@ -31,8 +30,7 @@ pub(crate) struct Section<'a> {
 impl<'a> Section<'a> {
     // The section that some bytes begin with, whose records have so many bytes each.
     pub(crate) fn first(bytes: &'a [u8], size: usize) -> Section<'a>
-        requires size_bound { size ≤ 24 }
-        requires whole { ends_early size bytes.now ≡ false }
+        requires { ends_early size bytes.now ≡ false }
         ensures count { result.count ≡ count_in bytes.now }
         ensures records { result.records.now ≡ records_in size bytes.now }
         ensures after { result.after.now ≡ after_section size bytes.now }
@@ -65,7 +63,6 @@ fn after_head(form: SavedForm, bytes: &[u8]) -> Option<&[u8]>
 
 // Six sections, and the file's end.
 fn check_sections(bytes: &[u8], size: usize) -> CheckAnswer
-    requires { size ≤ 24 }
     ensures { check_meaning result ≡ checked (section_checks size 1 6 bytes.now) }
 {
     let mut rest = bytes;

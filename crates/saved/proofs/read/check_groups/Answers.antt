@@ -36,8 +36,8 @@ long c =
 few : (c : After-first-section) → c.first-section.result.count ≤ length c.first-section.result.records.now
 few c = omega (arith, exact c, mul-le-mul_right {m = 1} {n = quad_size c.args.form.numbers} c.first-section.result.count (omega (arith, c.args.form.fits.five)))
 
-pub first-section-requires-clause-whole : goal.first-section-requires-clause-whole
-first-section-requires-clause-whole c = rw c.quad_size-size.ensures (whole (goal.at.first-section-requires-clause-whole c).In-loop-face)
+pub first-section-requires : goal.first-section-requires
+first-section-requires c = rw c.quad_size-size.ensures (whole (goal.at.first-section-requires c).In-loop-face)
 
 pub check_group-requires-clause-exact : goal.check_group-requires-clause-exact
 check_group-requires-clause-exact c = exact c

@@ -55,8 +55,8 @@ loop-count-init c = record {
   counted = filled_start refl (sym (length-map (groups_in c.args.form.numbers 6 c.args.bytes.now) length ∙ groups_length c.args.form.numbers 6 c.args.bytes.now));
 }
 
-pub first-section-requires-clause-whole : goal.first-section-requires-clause-whole
-first-section-requires-clause-whole c = rw c.quad_size-size.ensures (whole (goal.at.first-section-requires-clause-whole c).In-loop-count)
+pub first-section-requires : goal.first-section-requires
+first-section-requires c = rw c.quad_size-size.ensures (whole (goal.at.first-section-requires c).In-loop-count)
 
 pub overflow_mul-end : goal.overflow_mul-end
 overflow_mul-end c = let r = room c in search rules

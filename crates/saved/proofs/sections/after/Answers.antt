@@ -13,4 +13,5 @@ pub returns : goal.returns
 returns c =
     let there : 4 ≤ length c.args.bytes.now = search rules in
     let records = c.in_ok-records.ensures.lookup.0.2 ∙ take_rest c.args.bytes.now 4 in
-    follows c.args.size c.args.bytes.now c.get-2.result there records c.get-count.ensures c.get-2.ensures.lookup
+    let short : length c.in_ok-records.records.now < 18_446_744_073_709_551_615 = search rules in
+    follows c.args.size c.args.bytes.now c.get-2.result there records c.get-count.ensures c.saturating_mul.ensures short c.get-2.ensures.lookup
