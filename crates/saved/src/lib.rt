@@ -21,6 +21,7 @@ ghost use Rattle.saved.specs.Saved.{read_outcome, read_saved, write_saved};
 ghost use Rattle.saved.specs.Where.{refusal_byte};
 
 use crate::form::SavedForm;
+use crate::write::HandedMesh;
 use geometry::face::OrientedBlockFace;
 use listing::MeshAnswer;
 use writing::handed::QuadsAnswer;
@@ -61,7 +62,16 @@ pub fn write_saved(
 {
     match handed::check_five(faces, counts, quads) {
         QuadsAnswer::Refused(number, place) => written::refused(number, place),
-        QuadsAnswer::Quads(all) => write::write(FIRST_FORM, faces, counts, quads, all, out),
+        QuadsAnswer::Quads(all) => {
+            let mesh = HandedMesh {
+                form: FIRST_FORM,
+                faces,
+                counts,
+                quads,
+                all,
+            };
+            mesh.write(out)
+        }
     }
 }
 

@@ -19,19 +19,6 @@ use writing::written::WriteAnswer;
 // The bytes of all counts and of the face bytes.
 const HEAD: u64 = 34;
 
-// Section 0.
-fn head(form: SavedForm, faces: [OrientedBlockFace; 6], out: &mut [u8])
-    requires { length out.old ≡ 10 + length form.mark.now }
-    ensures { out.new ≡ head_bytes form.mark.now faces }
-{
-    let count = 6 + form.mark.len();
-    let (first, records) = out.split_at_mut(4);
-    number::put(count as u32, first);
-    let (codes, mark) = records.split_at_mut(6);
-    codes.copy_from_slice(&face_byte::of_faces(faces));
-    mark.copy_from_slice(form.mark);
-}
-
 // Numbers, one after another.
 fn numbers(list: &[u32], out: &mut [u8])
     requires { length out.old ≡ length list.now * 4 }
@@ -42,65 +29,77 @@ fn numbers(list: &[u32], out: &mut [u8])
     }
 }
 
-// A group's section: so many quads of a list, after so many of the groups before.
-fn group(form: SavedForm, quads: &[u32], first: usize, count: usize, out: &mut [u8])
-    requires count_bound { first + count ≤ capacity form.numbers (length quads.now) }
-    requires count_le_most_quads { count ≤ most_quads }
-    requires exact { length out.old ≡ length (group_at form.numbers quads.now first count) }
-    ensures { out.new ≡ group_at form.numbers quads.now first count }
-{
-    let from = first * form.numbers;
-    let end = from + count * form.numbers;
-    let (head, records) = out.split_at_mut(4);
-    number::put(count as u32, head);
-    numbers(&quads[from..end], records);
+// A mesh that is handed in to be written in a form, and that has passed its checks.
+#[derive(Clone, Copy)]
+pub(crate) struct HandedMesh<'a> {
+    pub(crate) form: SavedForm,
+    pub(crate) faces: [OrientedBlockFace; 6],
+    pub(crate) counts: [u64; 6],
+    pub(crate) quads: &'a [u32],
+    // How many quads it has.
+    pub(crate) all: u64,
+    ghost passes: { checked (handed_checks form.numbers faces counts quads.now) ≡ accepted tt },
+    ghost summed: { all ≡ total counts },
 }
 
-// The file of a mesh that has passed its checks.
-fn mesh(
-    form: SavedForm,
-    faces: [OrientedBlockFace; 6],
-    counts: [u64; 6],
-    quads: &[u32],
-    out: &mut [u8],
-)
-    requires quads_value { checked (handed_checks form.numbers faces counts quads.now) ≡ accepted tt }
-    requires exact { length out.old ≡ length (file_of (form_of form) faces counts quads.now) }
-    ensures { out.new ≡ file_of (form_of form) faces counts quads.now }
-{
-    let (section_0, groups) = out.split_at_mut(form.first_quads());
-    head(form, faces, section_0);
-    let size = form.quad_size();
-    let mut at: usize = 0;
-    let mut first: usize = 0;
-    for count in counts {
-        let count = count as usize;
-        let end = at + 4 + count * size;
-        group(form, quads, first, count, &mut groups[at..end]);
-        at = end;
-        first += count;
+impl HandedMesh<'_> {
+    // Section 0.
+    fn head(&self, out: &mut [u8])
+        requires { length out.old ≡ 10 + length self.now.form.mark.now }
+        ensures { out.new ≡ head_bytes self.now.form.mark.now self.now.faces }
+    {
+        let mark = self.form.mark;
+        let count = 6 + mark.len();
+        let (first, records) = out.split_at_mut(4);
+        number::put(count as u32, first);
+        let (codes, rest) = records.split_at_mut(6);
+        codes.copy_from_slice(&face_byte::of_faces(self.faces));
+        rest.copy_from_slice(mark);
     }
-}
 
-// A mesh that has passed its checks, with so many quads. Refuses by 15 where its file is longer than
-// the output.
-pub(crate) fn write(
-    form: SavedForm,
-    faces: [OrientedBlockFace; 6],
-    counts: [u64; 6],
-    quads: &[u32],
-    all: u64,
-    out: &mut [u8],
-) -> WriteAnswer
-    requires quads_value { checked (handed_checks form.numbers faces counts quads.now) ≡ accepted tt }
-    requires all_value { all ≡ total counts }
-    ensures { outcome result out.new ≡ write_form (form_of form) (handed_checks form.numbers faces counts quads.now) faces counts quads.now out.old }
-{
-    let records = all * form.quad_size() as u64;
-    let length = HEAD + form.mark.len() as u64 + records;
-    if (out.len() as u64) < length {
-        return written::refused(written::SHORT_OUTPUT, 0);
+    // A group's section: so many quads, after so many of the groups before.
+    fn group(&self, first: usize, count: usize, out: &mut [u8])
+        requires count_bound { first + count ≤ capacity self.now.form.numbers (length self.now.quads.now) }
+        requires count_le_most_quads { count ≤ most_quads }
+        requires exact { length out.old ≡ length (group_at self.now.form.numbers self.now.quads.now first count) }
+        ensures { out.new ≡ group_at self.now.form.numbers self.now.quads.now first count }
+    {
+        let from = first * self.form.numbers;
+        let end = from + count * self.form.numbers;
+        let (head, records) = out.split_at_mut(4);
+        number::put(count as u32, head);
+        numbers(&self.quads[from..end], records);
     }
-    mesh(form, faces, counts, quads, &mut out[..length as usize]);
-    written::accepted(length)
+
+    // The file.
+    fn file(&self, out: &mut [u8])
+        requires { length out.old ≡ length (file_of (form_of self.now.form) self.now.faces self.now.counts self.now.quads.now) }
+        ensures { out.new ≡ file_of (form_of self.now.form) self.now.faces self.now.counts self.now.quads.now }
+    {
+        let (section_0, groups) = out.split_at_mut(self.form.first_quads());
+        self.head(section_0);
+        let size = self.form.quad_size();
+        let mut at: usize = 0;
+        let mut first: usize = 0;
+        for count in self.counts {
+            let count = count as usize;
+            let end = at + 4 + count * size;
+            self.group(first, count, &mut groups[at..end]);
+            at = end;
+            first += count;
+        }
+    }
+
+    // Refuses by 15 where the file is longer than the output.
+    pub(crate) fn write(&self, out: &mut [u8]) -> WriteAnswer
+        ensures { outcome result out.new ≡ write_form (form_of self.now.form) (handed_checks self.now.form.numbers self.now.faces self.now.counts self.now.quads.now) self.now.faces self.now.counts self.now.quads.now out.old }
+    {
+        let records = self.all * self.form.quad_size() as u64;
+        let length = HEAD + self.form.mark.len() as u64 + records;
+        if (out.len() as u64) < length {
+            return written::refused(written::SHORT_OUTPUT, 0);
+        }
+        self.file(&mut out[..length as usize]);
+        written::accepted(length)
+    }
 }
