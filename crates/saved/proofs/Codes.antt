@@ -15,23 +15,14 @@ use Rattle.geometry.proofs.Refusals.{split, passes, accepts_value, accepts_check
 use Rattle.voxels.proofs.Asked.{drop_next}
 use Rattle.saved.specs.Form.{face_byte, without_sign, sign_of, face_of}
 use Rattle.saved.specs.Read.{bad_face_byte, bad_face_bytes_from}
-use Rattle.saved.proofs.FaceBytes.{face_byte_small}
 
 -- ---- a face's byte
 
 module _ (f : OrientedBlockFace) {n : ℕ} (is : n ≡ permutation_number f.permutation) where
-  -- The permutation's number is a byte,
-  pub number_small : n < 256
-  unfolding face_byte
-  number_small = omega (arith, face_byte_small f)
-
-  -- with 8 more where the sign is -1,
+  -- It is the permutation's number, with 8 more where the sign is -1,
   pub byte_minus : same f.n_sign minus_one ≡ true → n + 8 ≡ face_byte f
   unfolding face_byte
   byte_minus e = rw (e, is)
-
-  pub minus_small : same f.n_sign minus_one ≡ true → n + 8 < 256
-  minus_small e = rw (byte_minus e) (face_byte_small f)
 
   -- and by itself where it is another.
   pub byte_plus : same f.n_sign minus_one ≡ false → n ≡ face_byte f

@@ -1,5 +1,5 @@
 // Writes a file of a form. Each function fills the bytes that it is lent.
-ghost use Rattle.std.specs.Prelude.{map, ◌≡◌, ◌+◌, ◌*◌, ◌≤◌, length, take, drop};
+ghost use Rattle.std.specs.Prelude.{◌++◌, map, ◌≡◌, ◌+◌, ◌*◌, ◌≤◌, length, take, drop};
 ghost use Rattle.geometry.specs.Refusal.{accepted, checked};
 ghost use Rattle.listing.specs.Listing.{capacity};
 ghost use Rattle.listing.specs.Cut.{items_in};
@@ -29,6 +29,16 @@ fn numbers(list: &[u32], out: &mut [u8])
     }
 }
 
+// The records of section 0: face bytes, and a form's mark.
+fn head_records(codes: [u8; 6], mark: &[u8], out: &mut [u8])
+    requires { length out.old ≡ 6 + length mark.now }
+    ensures { out.new ≡ codes ++ mark.now }
+{
+    let (first, rest) = out.split_at_mut(6);
+    first.copy_from_slice(&codes);
+    rest.copy_from_slice(mark);
+}
+
 // A mesh that is handed in to be written in a form, and that has passed its checks.
 #[derive(Clone, Copy)]
 pub(crate) struct HandedMesh<'a> {
@@ -48,13 +58,10 @@ impl HandedMesh<'_> {
         requires { length out.old ≡ 10 + length self.now.form.mark.now }
         ensures { out.new ≡ head_bytes self.now.form.mark.now self.now.faces }
     {
-        let mark = self.form.mark;
-        let count = 6 + mark.len();
+        let count = 6 + self.form.mark.len();
         let (first, records) = out.split_at_mut(4);
         number::put(count as u32, first);
-        let (codes, rest) = records.split_at_mut(6);
-        codes.copy_from_slice(&face_byte::of_faces(self.faces));
-        rest.copy_from_slice(mark);
+        head_records(face_byte::of_faces(self.faces), self.form.mark, records);
     }
 
     // A group's section: so many quads, after so many of the groups before.

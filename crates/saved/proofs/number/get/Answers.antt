@@ -4,4 +4,4 @@ use Rattle.saved.proofs.Numbers.{number_of_four}
 use Rattle.saved.proofs.number.get.Goals as goal
 
 pub returns : goal.returns
-returns c = omega (arith, c.from_le_bytes.ensures, number_of_four c.args.bytes.now c.requires)
+returns c = omega (arith, number_of_four c.args.bytes.now c.requires)

@@ -35,17 +35,17 @@ pub slice_bounds-starts_with-start : goal.slice_bounds-starts_with-start
 slice_bounds-starts_with-start c = let r = room c in search rules
 
 -- The test of the mark is the rule's.
-told : (c : After-starts_with) → wrong_head (form_of c.args.form) c.args.bytes.now ≡ not c.starts_with.result
-told c =
-    mark_tells (form_of c.args.form) c.args.bytes.now c.in_ok-rest.ensures.0 (sym c.get-count.ensures ∙ c.if-count-wanted.false)
-    (rw take_rest at c.starts_with.ensures.value)
+told : (c : After-starts_with) → count_in c.args.bytes.now ≡ 6 + length c.args.form.mark.now → wrong_head (form_of c.args.form) c.args.bytes.now ≡ not c.starts_with.result
+told c many = mark_tells (form_of c.args.form) c.args.bytes.now c.in_ok-rest.ensures.0 many (rw take_rest at c.starts_with.ensures.value)
 
 pub returns-then-not-starts_with : goal.returns-then-not-starts_with
 returns-then-not-starts_with c =
-    head_wrong (form_of c.args.form) c.args.bytes.now (told (goal.at.returns-then-not-starts_with c).After-starts_with ∙ ap not c.if-not-starts_with.true)
+    head_wrong (form_of c.args.form) c.args.bytes.now
+    (told (goal.at.returns-then-not-starts_with c).After-starts_with (count (goal.at.returns-then-not-starts_with c).Else-count-wanted) ∙ ap not c.if-not-starts_with.true)
 
 pub returns : goal.returns
 returns c = (
-  head_right (form_of c.args.form) c.args.bytes.now c.in_ok-rest.ensures.0 (told (goal.at.returns c).After-starts_with ∙ ap not c.if-not-starts_with.false),
+  head_right (form_of c.args.form) c.args.bytes.now c.in_ok-rest.ensures.0
+      (told (goal.at.returns c).After-starts_with (count (goal.at.returns c).Else-count-wanted) ∙ ap not c.if-not-starts_with.false),
   c.in_ok-rest.ensures.1,
 )

@@ -2,8 +2,8 @@
 use Rattle.std.proofs.Common.{◌+◌, drop, get_or, refl, arith}
 use Rattle.saved.specs.Bytes.{written32, written_all}
 use Rattle.saved.proofs.Numbers.{written_length}
-use Rattle.saved.proofs.Filling.{filled_start, filled_part, filled_done}
-use Rattle.saved.proofs.Writing.{items_next, items_none, numbers_long}
+use Rattle.saved.proofs.Filling.{filled_start, filled_part}
+use Rattle.saved.proofs.Writing.{items_next, numbers_long}
 use Rattle.saved.proofs.write.numbers.Goals as goal
 
 pub loop-k-init : goal.loop-k-init
@@ -16,6 +16,3 @@ loop-k-preserved c =
     filled_part c.loop-k.invariant (written32 (get_or list k 0)) (written_all written32 (drop (k + 1) list)) _ _ (items_next written32 list k 0 c.loop-k-test.true) c.put.ensures
     (omega (arith, written_length 4 (get_or list k 0)))
     (omega (arith, written_length 4 (get_or list k 0)))
-
-pub returns : goal.returns
-returns c = filled_done c.loop-k.invariant (items_none written32 c.args.list.now c.loop-k.k c.loop-k-test.false)
