@@ -14,9 +14,6 @@ use geometry::refusal::CheckAnswer;
 // What a byte has for a sign of -1.
 const MINUS: u8 = 8;
 
-// The byte where the face bytes begin, after section 0's count.
-const FIRST: usize = 4;
-
 // The byte of a face.
 pub(crate) fn of_face(face: OrientedBlockFace) -> u8
     ensures { result ≡ face_byte face }
@@ -27,6 +24,13 @@ pub(crate) fn of_face(face: OrientedBlockFace) -> u8
         return number + MINUS;
     }
     number
+}
+
+// The bytes of six faces.
+pub(crate) fn of_faces(faces: [OrientedBlockFace; 6]) -> [u8; 6]
+    ensures { result ≡ map face_byte faces }
+{
+    faces.map(of_face)
 }
 
 // The permutation's number in a byte.
@@ -81,16 +85,13 @@ pub(crate) fn check(bytes: &[u8]) -> CheckAnswer
     requires { 10 ≤ length bytes.now }
     ensures { check_meaning result ≡ checked (bad_face_bytes (take 6 (drop 4 bytes.now))) }
 {
-    let mut k: usize = 0;
-    while k < 6 {
-        let at = FIRST + k;
-        match check_byte(bytes[at]) {
+    for (k, byte) in bytes[4..10].iter().enumerate() {
+        match check_byte(*byte) {
             CheckAnswer::Refused(number, _) => {
                 return CheckAnswer::Refused(number, k as u64);
             }
             CheckAnswer::Passed => {}
         }
-        k += 1;
     }
     CheckAnswer::Passed
 }
@@ -100,12 +101,5 @@ pub(crate) fn faces(bytes: &[u8]) -> [OrientedBlockFace; 6]
     requires { 10 ≤ length bytes.now }
     ensures { result ≡ map face_of (take 6 (drop 4 bytes.now)) }
 {
-    [
-        face(bytes[4]),
-        face(bytes[5]),
-        face(bytes[6]),
-        face(bytes[7]),
-        face(bytes[8]),
-        face(bytes[9]),
-    ]
+    [bytes[4], bytes[5], bytes[6], bytes[7], bytes[8], bytes[9]].map(face)
 }

@@ -7,6 +7,7 @@
 #![tactic(auto)]
 
 mod face_byte;
+mod form;
 mod number;
 mod place;
 mod read;
@@ -19,6 +20,8 @@ ghost use Rattle.saved.specs.Form.{first_form};
 ghost use Rattle.saved.specs.Saved.{read_outcome, read_saved, write_saved};
 ghost use Rattle.saved.specs.Where.{refusal_byte};
 
+use crate::form::SavedForm;
+use crate::write::HandedMesh;
 use geometry::face::OrientedBlockFace;
 use listing::MeshAnswer;
 use writing::handed::QuadsAnswer;
@@ -30,6 +33,12 @@ pub const FILE: u32 = 16;
 
 // How many numbers a quad has: minimum x, y, z, width, height.
 pub const QUAD_NUMBERS: usize = 5;
+
+// The form of these calls: nothing stands after the face bytes.
+const FIRST_FORM: SavedForm = SavedForm {
+    numbers: QUAD_NUMBERS,
+    mark: b"",
+};
 
 // What a reader answers.
 #[derive(Clone, Copy)]
@@ -53,7 +62,16 @@ pub fn write_saved(
 {
     match handed::check_five(faces, counts, quads) {
         QuadsAnswer::Refused(number, place) => written::refused(number, place),
-        QuadsAnswer::Quads(all) => write::write(faces, counts, quads, all, QUAD_NUMBERS, b"", out),
+        QuadsAnswer::Quads(all) => {
+            let mesh = HandedMesh {
+                form: FIRST_FORM,
+                faces,
+                counts,
+                quads,
+                all,
+            };
+            mesh.write(out)
+        }
     }
 }
 
@@ -62,7 +80,7 @@ pub fn write_saved(
 pub fn read_saved(bytes: &[u8], out: &mut [u32]) -> ReadAnswer
     ensures { read_outcome result out.new ≡ read_saved bytes.now out.old }
 {
-    read::read(bytes, QUAD_NUMBERS, b"", out)
+    read::read(FIRST_FORM, bytes, out)
 }
 
 // The byte of a file where a refusal of `read_saved` stands: 16, where the section's count begins, or
@@ -71,5 +89,5 @@ pub fn read_saved(bytes: &[u8], out: &mut [u32]) -> ReadAnswer
 pub fn refusal_byte(bytes: &[u8], refusal: u32, place: u64) -> u64
     ensures { result ≡ refusal_byte first_form refusal place bytes.now }
 {
-    place::byte(bytes, QUAD_NUMBERS, refusal, place)
+    place::byte(FIRST_FORM, bytes, refusal, place)
 }

@@ -2,7 +2,6 @@
 use mathlib.Core.List.{List}
 use mathlib.Core.Path.{◌≡◌, sym, ◌∙◌, ap}
 use Prim.Native.Nat.{ℕ}
-use native.Mathlib.Omega.{arith}
 use Rattle.geometry.specs.declared.face.OrientedBlockFace.{OrientedBlockFace}
 use Rattle.geometry.specs.Refusal.{accepted, refused, checked}
 use Rattle.geometry.proofs.Refusals.{accepts_checked, accepts_value, answer_refused}
@@ -33,8 +32,8 @@ summed c =
     let a = c.args in
     sym (accepts_value (five_checks a.faces a.counts a.quads.now) (total a.counts) (sym c.check_five.ensures ∙ ap quads_meaning c.in-Quads.is))
 
-pub write-requires : goal.write-requires
-write-requires c = record { form_fits = record { five = omega arith; few = omega arith; short = omega arith }; quads_value = passed (goal.at.write-requires c).In-Quads; all_value = summed (goal.at.write-requires c).In-Quads }
+pub invariant_of-mesh-in-Quads : goal.invariant_of-mesh-in-Quads
+invariant_of-mesh-in-Quads c = record { passes = passed (goal.at.invariant_of-mesh-in-Quads c).In-Quads; summed = summed (goal.at.invariant_of-mesh-in-Quads c).In-Quads }
 
 pub returns-in-Refused : goal.returns-in-Refused
 returns-in-Refused c =
