@@ -6,9 +6,14 @@ use Prim.Native.Nat.{ℕ, ◌+◌, ◌-◌, ◌≤◌, ◌<◌}
 use native.Mathlib.Omega.{arith}
 use lib.ListN.{length, get_or, take, drop, drop_of_length-le, get_or-eq_default}
 use borrow.Author.Tests.{lt-ltb, le-ltb, leb-true}
+use Rattle.std.specs.Result.{result_unwrap_or}
+use Rattle.std.specs.declared.result.Result.{Result}
+use Rattle.std.specs.declared.result.Result.TheVariants.{Ok, Err}
 use Rattle.geometry.specs.declared.axis.AxisPermutation.{AxisPermutation}
 use Rattle.geometry.specs.declared.axis.AxisPermutation.TheVariants.{Xyz}
 use Rattle.geometry.specs.declared.face.OrientedBlockFace.{OrientedBlockFace}
+use Rattle.geometry.specs.declared.refusal.Refusal.{Refusal}
+use Rattle.geometry.specs.Answers.{meaning}
 use Rattle.geometry.specs.Refusal.{Answer, accepted, refused, answer, checked}
 use Rattle.geometry.specs.Axes.{same, one, minus_one, permutations, permutation_number, no_permutation, permutation_of}
 use Rattle.geometry.proofs.Refusals.{split, passes, accepts_value, accepts_checked, answer_refused, place_passes, place_refuses}
@@ -55,7 +60,7 @@ module _ (b : ℕ) where
   module _ {k : ℕ} (is : k ≡ without_sign b) where
     -- A permutation that is found is the byte's, and the byte passes;
     module _ {p : AxisPermutation} (found : permutation_of k ≡ accepted p) where
-      pub permutation_found : p ≡ get_or permutations (without_sign b) Xyz
+      permutation_found : p ≡ get_or permutations (without_sign b) Xyz
       unfolding permutation_of
       permutation_found = sym (accepts_value _ _ found) ∙ ap (λ (j : ℕ). get_or permutations j Xyz) is
 
@@ -69,12 +74,17 @@ module _ (b : ℕ) where
       unfolding permutation_of
       code_refused = sym (answer_refused (no_permutation k ∷ []) _ none) ∙ ap (λ (j : ℕ). checked (no_permutation j ∷ [])) is
 
-      pub permutation_none : Xyz ≡ get_or permutations (without_sign b) Xyz
+      permutation_none : Xyz ≡ get_or permutations (without_sign b) Xyz
       unfolding permutation_of answer
       permutation_none =
           split (no_permutation k).applies
           (λ t. sym (get_or-eq_default permutations Xyz (leb-true 6 k t)) ∙ ap (λ (j : ℕ). get_or permutations j Xyz) is)
           (λ f. cc (passes (no_permutation k) [] (get_or permutations k Xyz) f))
+
+-- So what the code takes is the byte's.
+pub permutation_or : (b : ℕ) {k : ℕ} → k ≡ without_sign b → (r : Result AxisPermutation Refusal) → meaning r ≡ permutation_of k → result_unwrap_or r Xyz ≡ get_or permutations (without_sign b) Xyz
+permutation_or b is (Ok p) told = permutation_found b is (sym told)
+permutation_or b is (Err e) told = permutation_none b is (sym told)
 
 -- ---- some of them
 

@@ -10,11 +10,9 @@ use Rattle.geometry.specs.declared.face.OrientedBlockFace.{OrientedBlockFace}
 use Rattle.geometry.specs.Refusal.{Answer, accepted, refused, answer, checked}
 use Rattle.geometry.proofs.Refusals.{applies, passes, whole_refuses, whole_passes}
 use Rattle.geometry.proofs.Orders.{part_refuses, part_passes, both_pass}
-use Rattle.listing.specs.declared.MeshAnswer.{MeshAnswer}
 use Rattle.listing.specs.Listing.{joined, overwritten, capacity, too_many}
 use Rattle.listing.specs.Outcome.{mesh_answer}
 use Rattle.writing.proofs.Rest.{group_held}
-use Rattle.saved.specs.declared.ReadAnswer.{ReadAnswer}
 use Rattle.saved.specs.Form.{Form, Mesh, quad_size, face_of}
 use Rattle.saved.specs.Read.{file_checks, face_bytes_in, groups_in, mesh_in, bad_face_bytes, mesh_quads, bad_mesh, read_checks, parse}
 use Rattle.saved.specs.Saved.{quad_count, fitting, read_answer, read_outcome, read_form}
@@ -57,9 +55,9 @@ module _ (form : Form) (b : List ℕ) where
     unfolding fitting parse
     fitting_refused = rw (sym (whole_refuses (read_checks form b) (mesh_in form b) e))
 
-    pub read_refused : {r : ReadAnswer} → r ≡ read_answer (refused n p) → read_outcome r out ≡ read_form form b out
+    pub read_refused : read_outcome (read_answer (refused n p)) out ≡ read_form form b out
     unfolding read_form
-    read_refused is = rw (is, fitting_refused)
+    read_refused = rw fitting_refused
 
   -- ---- a file that passes
 
@@ -97,9 +95,9 @@ module _ (form : Form) (b : List ℕ) where
         fitting_left = rw (sym (whole_passes (read_checks form b) (mesh_in form b) passed refl), quads_counted)
 
         -- An output that holds fewer is refused by 9,
-        pub read_many : {r : ReadAnswer} → r ≡ read_answer (refused 9 (length out / form.numbers)) → length out / form.numbers < quads → read_outcome r out ≡ read_form form b out
+        pub read_many : length out / form.numbers < quads → read_outcome (read_answer (refused 9 (length out / form.numbers))) out ≡ read_form form b out
         unfolding read_form capacity
-        read_many is h = rw (is, fitting_left ∙ applies _ [] (mesh_in form b) (lt-ltb _ _ h))
+        read_many h = rw (fitting_left ∙ applies _ [] (mesh_in form b) (lt-ltb _ _ h))
 
         module _ (h : quads ≤ length out / form.numbers) where
           -- and any other has room for them,
@@ -108,16 +106,14 @@ module _ (form : Form) (b : List ℕ) where
           read_room = group_held form.numbers (length out) quads h
 
           -- and holds them at the end.
-          pub read_done : {mesh : MeshAnswer} {counts : List ℕ} {faces : List OrientedBlockFace} {taken : List ℕ}
-              → mesh ≡ mesh_answer (answer (too_many quads (length out / form.numbers)) counts)
+          pub read_done : {counts : List ℕ} {faces : List OrientedBlockFace} {taken : List ℕ}
               → counts ≡ map length (groups_in form.numbers 6 (drop (first_quads form.mark) b))
               → faces ≡ map face_of (take 6 (drop 4 b))
               → taken ≡ joined (joined (groups_in form.numbers 6 (drop (first_quads form.mark) b)))
-              → read_outcome (record { mesh = mesh; faces = faces }) (taken ++ drop (quads * form.numbers) out) ≡ read_form form b out
+              → read_outcome (record { mesh = mesh_answer (accepted counts); faces = faces }) (taken ++ drop (quads * form.numbers) out) ≡ read_form form b out
           unfolding read_form capacity answer overwritten
-          read_done told is-counts is-faces is-taken =
+          read_done is-counts is-faces is-taken =
               rw (
-                told ∙ ap mesh_answer (passes _ [] _ (le-ltb _ _ h)),
                 is-counts,
                 is-faces,
                 is-taken,

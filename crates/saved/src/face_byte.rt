@@ -3,13 +3,13 @@ ghost use Rattle.std.specs.Prelude.{◌≡◌, ◌∷◌, [], map, ◌≤◌, le
 ghost use Rattle.geometry.specs.declared.axis.AxisPermutation.TheVariants.{Xyz};
 ghost use Rattle.geometry.specs.Axes.{permutations};
 ghost use Rattle.geometry.specs.Refusal.{checked};
-ghost use Rattle.geometry.specs.Answers.{check_meaning};
+ghost use Rattle.geometry.specs.Answers.{meaning};
 ghost use Rattle.saved.specs.Form.{face_byte, without_sign, face_of};
 ghost use Rattle.saved.specs.Read.{bad_face_byte, bad_face_bytes};
 
-use geometry::axis::{AxisPermutation, PermutationAnswer};
+use geometry::axis::AxisPermutation;
 use geometry::face::OrientedBlockFace;
-use geometry::refusal::CheckAnswer;
+use geometry::refusal::Refusal;
 
 // What a byte has for a sign of -1.
 const MINUS: u8 = 8;
@@ -18,8 +18,7 @@ const MINUS: u8 = 8;
 pub(crate) fn of_face(face: OrientedBlockFace) -> u8
     ensures { result ≡ face_byte face }
 {
-    let permutation = face.permutation;
-    let number = permutation.number() as u8;
+    let number = u32::from(face.permutation) as u8;
     if face.n_sign == -1 {
         return number + MINUS;
     }
@@ -47,10 +46,7 @@ fn number(byte: u8) -> u32
 fn permutation(byte: u8) -> AxisPermutation
     ensures { result ≡ get_or permutations (without_sign byte) Xyz }
 {
-    match AxisPermutation::from_number(number(byte)) {
-        PermutationAnswer::Permutation(found) => found,
-        PermutationAnswer::Refused(_) => AxisPermutation::Xyz,
-    }
+    AxisPermutation::try_from(number(byte)).unwrap_or(AxisPermutation::Xyz)
 }
 
 // The face of a byte.
@@ -71,29 +67,24 @@ fn face(byte: u8) -> OrientedBlockFace
 }
 
 // The check of one byte.
-fn check_byte(byte: u8) -> CheckAnswer
-    ensures { check_meaning result ≡ checked (bad_face_byte byte ∷ []) }
+fn check_byte(byte: u8) -> Result<(), Refusal>
+    ensures { meaning result ≡ checked (bad_face_byte byte ∷ []) }
 {
-    match AxisPermutation::from_number(number(byte)) {
-        PermutationAnswer::Permutation(_) => CheckAnswer::Passed,
-        PermutationAnswer::Refused(refusal) => CheckAnswer::Refused(refusal, 0),
-    }
+    AxisPermutation::try_from(number(byte))?;
+    Ok(())
 }
 
 // The check of a file's six face bytes: the first outside the code is refused, with its number.
-pub(crate) fn check(bytes: &[u8]) -> CheckAnswer
+pub(crate) fn check(bytes: &[u8]) -> Result<(), Refusal>
     requires { 10 ≤ length bytes.now }
-    ensures { check_meaning result ≡ checked (bad_face_bytes (take 6 (drop 4 bytes.now))) }
+    ensures { meaning result ≡ checked (bad_face_bytes (take 6 (drop 4 bytes.now))) }
 {
     for (k, byte) in bytes[4..10].iter().enumerate() {
-        match check_byte(*byte) {
-            CheckAnswer::Refused(number, _) => {
-                return CheckAnswer::Refused(number, k as u64);
-            }
-            CheckAnswer::Passed => {}
+        if let Err(refusal) = check_byte(*byte) {
+            return Err(refusal.reason.at(k as u64));
         }
     }
-    CheckAnswer::Passed
+    Ok(())
 }
 
 // The six faces of a file.

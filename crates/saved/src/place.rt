@@ -7,8 +7,15 @@ ghost use Rattle.saved.specs.Where.{from_section, from_face, from_quad, from_ref
 ghost use Rattle.saved.specs.Private.{form_of};
 
 use crate::form::SavedForm;
-use crate::{FILE, number};
-use geometry::refusal;
+use crate::number;
+use geometry::refusal::Reason;
+
+// The numbers of what a file is refused for.
+const FILE: u32 = Reason::File as u32;
+
+const NO_SUCH_NUMBER: u32 = Reason::NoSuchNumber as u32;
+
+const QUAD_LIMITS: u32 = Reason::QuadLimits as u32;
 
 // How many sections of quads there are.
 const SECTIONS: usize = 6;
@@ -87,8 +94,8 @@ fn standing(form: SavedForm, bytes: &[u8], number: u32, place: u64) -> &[u8]
 {
     match number {
         FILE => section(form, bytes, place),
-        refusal::NO_SUCH_NUMBER => face(bytes, place),
-        refusal::QUAD_LIMITS => quad(form, bytes, place),
+        NO_SUCH_NUMBER => face(bytes, place),
+        QUAD_LIMITS => quad(form, bytes, place),
         _ => bytes,
     }
 }

@@ -1,24 +1,22 @@
 // Reads a file of a form. The sections are looked at first, then the face bytes, then the quads, so that
 // nothing of a file that is refused has been written.
 ghost use Rattle.std.specs.Prelude.{map, ◌≡◌, ◌+◌, ◌*◌, ◌^◌, ◌<◌, ◌≤◌, length};
-ghost use Rattle.geometry.specs.Refusal as answers;
 ghost use Rattle.geometry.specs.Refusal.{checked};
-ghost use Rattle.geometry.specs.Answers.{check_meaning};
+ghost use Rattle.geometry.specs.Answers.{meaning};
 ghost use Rattle.geometry.specs.Quad.{side_within_limits};
 ghost use Rattle.listing.specs.Listing.{joined};
 ghost use Rattle.saved.specs.Bytes.{number32, read_all};
 ghost use Rattle.saved.specs.Form.{quad_size};
 ghost use Rattle.saved.specs.Read.{groups_in, read_checks};
-ghost use Rattle.saved.specs.Saved.{read_answer, read_outcome, read_form};
+ghost use Rattle.saved.specs.Saved.{reader_answer, read_outcome, read_form};
 ghost use Rattle.saved.specs.Private.{form_of, Walk, fits_in, bad_quads_of, bad_groups_of};
 
 use crate::form::SavedForm;
 use crate::sections::Section;
-use crate::{ReadAnswer, face_byte, number, sections};
-use geometry::axis::AxisPermutation;
+use crate::{SavedMesh, face_byte, number, sections};
+use geometry::LARGEST_AXIS;
 use geometry::face::OrientedBlockFace;
-use geometry::refusal::CheckAnswer;
-use geometry::{LARGEST_AXIS, refusal};
+use geometry::refusal::{Reason, Refusal};
 
 // The bytes of the counts of sections 1 to 6.
 const COUNTS: usize = 24;
@@ -62,10 +60,10 @@ fn check_group(
     face: OrientedBlockFace,
     section: Section<'_>,
     first: usize,
-) -> CheckAnswer
+) -> Result<(), Refusal>
     requires exact { length section.records.now ≡ section.count * quad_size form.numbers }
     requires first_bound { first + length section.records.now < 2 ^ 63 }
-    ensures { check_meaning result ≡ checked (bad_quads_of form.numbers face first section.entry.count section.entry.records.now) }
+    ensures { meaning result ≡ checked (bad_quads_of form.numbers face first section.entry.count section.entry.records.now) }
 {
     let permutation = face.permutation;
     let axes = permutation.axes();
@@ -77,50 +75,35 @@ fn check_group(
     for (k, quad) in section.records.chunks_exact(size).enumerate() {
         if !quad_fits(quad, u, v) {
             let place = first + k;
-            return CheckAnswer::Refused(refusal::QUAD_LIMITS, place as u64);
+            return Err(Reason::QuadLimits.at(place as u64));
         }
     }
-    CheckAnswer::Passed
+    Ok(())
 }
 
 // Check 12 of six sections, of a file that has passed 16.
-fn check_groups(form: SavedForm, faces: [OrientedBlockFace; 6], bytes: &[u8]) -> CheckAnswer
+fn check_groups(form: SavedForm, faces: [OrientedBlockFace; 6], bytes: &[u8]) -> Result<(), Refusal>
     requires { Walk form.numbers 0 bytes.now }
-    ensures { check_meaning result ≡ checked (bad_groups_of form.numbers faces 0 6 bytes.now) }
+    ensures { meaning result ≡ checked (bad_groups_of form.numbers faces 0 6 bytes.now) }
 {
     let size = form.quad_size();
     let mut rest = bytes;
     let mut first: usize = 0;
     for face in faces {
         let section = Section::first(rest, size);
-        match check_group(form, face, section, first) {
-            CheckAnswer::Refused(number, place) => {
-                return CheckAnswer::Refused(number, place);
-            }
-            CheckAnswer::Passed => {}
-        }
+        check_group(form, face, section, first)?;
         first += section.count;
         rest = section.after;
     }
-    CheckAnswer::Passed
+    Ok(())
 }
 
 // 16, then 17, then 12.
-fn check(form: SavedForm, bytes: &[u8]) -> CheckAnswer
-    ensures { check_meaning result ≡ checked (read_checks (form_of form) bytes.now) }
+fn check(form: SavedForm, bytes: &[u8]) -> Result<(), Refusal>
+    ensures { meaning result ≡ checked (read_checks (form_of form) bytes.now) }
 {
-    match sections::check_file(form, bytes) {
-        CheckAnswer::Refused(number, place) => {
-            return CheckAnswer::Refused(number, place);
-        }
-        CheckAnswer::Passed => {}
-    }
-    match face_byte::check(bytes) {
-        CheckAnswer::Refused(number, place) => {
-            return CheckAnswer::Refused(number, place);
-        }
-        CheckAnswer::Passed => {}
-    }
+    sections::check_file(form, bytes)?;
+    face_byte::check(bytes)?;
     let faces = face_byte::faces(bytes);
     check_groups(form, faces, &bytes[form.first_quads()..])
 }
@@ -157,40 +140,19 @@ fn take_groups(form: SavedForm, bytes: &[u8], out: &mut [u32]) -> [u64; 6]
     counts
 }
 
-// A refused reader's answer.
-fn refused(number: u32, place: u64) -> ReadAnswer
-    ensures { result ≡ read_answer (answers.refused number place) }
-{
-    let faces = [OrientedBlockFace {
-        n_sign: 1,
-        permutation: AxisPermutation::Xyz,
-    }; 6];
-    ReadAnswer {
-        mesh: listing::refused(number, place),
-        faces,
-    }
-}
-
 // Reads a file of the form.
-pub(crate) fn read(form: SavedForm, bytes: &[u8], out: &mut [u32]) -> ReadAnswer
-    ensures { read_outcome result out.new ≡ read_form (form_of form) bytes.now out.old }
+pub(crate) fn read(form: SavedForm, bytes: &[u8], out: &mut [u32]) -> Result<SavedMesh, Refusal>
+    ensures { read_outcome (reader_answer (meaning result)) out.new ≡ read_form (form_of form) bytes.now out.old }
 {
-    match check(form, bytes) {
-        CheckAnswer::Refused(number, place) => {
-            return refused(number, place);
-        }
-        CheckAnswer::Passed => {}
-    }
+    check(form, bytes)?;
     let start = form.first_quads();
     let records = bytes.len() - start - COUNTS;
     let quads = records / form.quad_size();
     let capacity = out.len() / form.numbers;
     if capacity < quads {
-        return refused(listing::MANY_QUADS, capacity as u64);
+        return Err(Reason::ManyQuads.at(capacity as u64));
     }
     let counts = take_groups(form, &bytes[start..], &mut out[..quads * form.numbers]);
-    ReadAnswer {
-        mesh: listing::answered(quads, capacity, counts),
-        faces: face_byte::faces(bytes),
-    }
+    let faces = face_byte::faces(bytes);
+    Ok(SavedMesh { faces, counts })
 }

@@ -2,13 +2,13 @@
 // whether bytes follow the last.
 ghost use Rattle.std.specs.Prelude.{◌≡◌, true, false, MatchOption, ◌||◌};
 ghost use Rattle.geometry.specs.Refusal.{checked};
-ghost use Rattle.geometry.specs.Answers.{check_meaning};
+ghost use Rattle.geometry.specs.Answers.{meaning};
 ghost use Rattle.saved.specs.Read.{count_in, records_in, after_section, ends_early, wrong_head, section_checks, file_checks};
 ghost use Rattle.saved.specs.Private.{form_of};
 
 use crate::form::SavedForm;
-use crate::{FILE, number};
-use geometry::refusal::CheckAnswer;
+use crate::number;
+use geometry::refusal::{Reason, Refusal};
 
 // What follows a section whose records have so many bytes each, or none where it ends early.
 fn after(bytes: &[u8], size: usize) -> Option<&[u8]>
@@ -62,28 +62,28 @@ fn after_head(form: SavedForm, bytes: &[u8]) -> Option<&[u8]>
 }
 
 // Six sections, and the file's end.
-fn check_sections(bytes: &[u8], size: usize) -> CheckAnswer
-    ensures { check_meaning result ≡ checked (section_checks size 1 6 bytes.now) }
+fn check_sections(bytes: &[u8], size: usize) -> Result<(), Refusal>
+    ensures { meaning result ≡ checked (section_checks size 1 6 bytes.now) }
 {
     let mut rest = bytes;
     for section in 1..7 {
         match after(rest, size) {
             Some(next) => rest = next,
-            None => return CheckAnswer::Refused(FILE, section),
+            None => return Err(Reason::File.at(section)),
         }
     }
     if !rest.is_empty() {
-        return CheckAnswer::Refused(FILE, 7);
+        return Err(Reason::File.at(7));
     }
-    CheckAnswer::Passed
+    Ok(())
 }
 
 // Refusal 16 of a file of the form: the first section that ends early, or bytes after the last.
-pub(crate) fn check_file(form: SavedForm, bytes: &[u8]) -> CheckAnswer
-    ensures { check_meaning result ≡ checked (file_checks (form_of form) bytes.now) }
+pub(crate) fn check_file(form: SavedForm, bytes: &[u8]) -> Result<(), Refusal>
+    ensures { meaning result ≡ checked (file_checks (form_of form) bytes.now) }
 {
     match after_head(form, bytes) {
         Some(quads) => check_sections(quads, form.quad_size()),
-        None => CheckAnswer::Refused(FILE, 0),
+        None => Err(Reason::File.at(0)),
     }
 }

@@ -1,10 +1,11 @@
 // Writes a file of a form. Each function fills the bytes that it is lent.
 ghost use Rattle.std.specs.Prelude.{◌++◌, map, ◌≡◌, ◌+◌, ◌*◌, ◌≤◌, length, take, drop};
 ghost use Rattle.geometry.specs.Refusal.{accepted, checked};
+ghost use Rattle.geometry.specs.Answers.{meaning};
 ghost use Rattle.listing.specs.Listing.{capacity};
 ghost use Rattle.listing.specs.Cut.{items_in};
 ghost use Rattle.writing.specs.Handed.{total, most_quads, handed_checks};
-ghost use Rattle.writing.specs.Written.{outcome};
+ghost use Rattle.writing.specs.Written.{write_answer, outcome};
 ghost use Rattle.saved.specs.Bytes.{written32, written_all};
 ghost use Rattle.saved.specs.Layout.{group_bytes};
 ghost use Rattle.saved.specs.Saved.{file_of, write_form};
@@ -13,8 +14,7 @@ ghost use Rattle.saved.specs.Private.{form_of, head_bytes, group_at};
 use crate::form::SavedForm;
 use crate::{face_byte, number};
 use geometry::face::OrientedBlockFace;
-use writing::written;
-use writing::written::WriteAnswer;
+use geometry::refusal::{Reason, Refusal};
 
 // The bytes of all counts and of the face bytes.
 const HEAD: u64 = 34;
@@ -98,15 +98,16 @@ impl HandedMesh<'_> {
     }
 
     // Refuses by 15 where the file is longer than the output.
-    pub(crate) fn write(&self, out: &mut [u8]) -> WriteAnswer
-        ensures { outcome result out.new ≡ write_form (form_of self.now.form) (handed_checks self.now.form.numbers self.now.faces self.now.counts self.now.quads.now) self.now.faces self.now.counts self.now.quads.now out.old }
+    pub(crate) fn write(&self, out: &mut [u8]) -> Result<usize, Refusal>
+        ensures { outcome (write_answer (meaning result)) out.new ≡ write_form (form_of self.now.form) (handed_checks self.now.form.numbers self.now.faces self.now.counts self.now.quads.now) self.now.faces self.now.counts self.now.quads.now out.old }
     {
         let records = self.all * self.form.quad_size() as u64;
         let length = HEAD + self.form.mark.len() as u64 + records;
         if (out.len() as u64) < length {
-            return written::refused(written::SHORT_OUTPUT, 0);
+            return Err(Reason::ShortOutput.at(0));
         }
-        self.file(&mut out[..length as usize]);
-        written::accepted(length)
+        let length = length as usize;
+        self.file(&mut out[..length]);
+        Ok(length)
     }
 }

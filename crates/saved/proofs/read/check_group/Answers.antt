@@ -48,7 +48,7 @@ returns-then-not-quad_fits c =
     let ps = quads (goal.at.returns-then-not-quad_fits c).At-loop-k in
     let t = YieldsList-turn (road (goal.at.returns-then-not-quad_fits c).At-loop-k) c.loop-k.yielded _ c.loop-k.yielded_by _ _ (c.in-Some.k, c.in-Some.quad) c.in-Some.is c.next.ensures.steps in
     let (inside, number, quad) = counted ps (length c.loop-k.yielded) c.in-Some.k c.in-Some.quad.now t.0 t.1 in
-    rw number
+    rw (c.at.ensures, number)
     (quad_stops a.form.numbers a.form.fits.five a.face a.first (length c.loop-k.yielded) ps c.loop-k.invariant inside
     (rw quad at (outside_refused a.face (quad_of c.in-Some.quad.now) (told (goal.at.returns-then-not-quad_fits c).After-quad_fits) c.if-not-quad_fits.true)))
 

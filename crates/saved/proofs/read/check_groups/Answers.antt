@@ -1,7 +1,7 @@
 -- `check_groups` meets its contract: the sections that are left decide as all six do.
-use Rattle.std.proofs.Common.{rules, ◌≡◌, ◌+◌, ◌*◌, ◌≤◌, false, length, arith, ap}
+use Rattle.std.proofs.Common.{rules, ◌≡◌, ◌+◌, ◌*◌, ◌≤◌, false, length, arith, refl, ◌∙◌}
 use native.Mathlib.Nat.{mul-le-mul_right}
-use Rattle.geometry.specs.Answers.{check_meaning}
+use Rattle.geometry.proofs.Answers.{handed_on}
 use Rattle.saved.specs.Form.{quad_size}
 use Rattle.saved.specs.Read.{ends_early, records_in, after_section}
 use Rattle.saved.proofs.Section.{records_length}
@@ -45,11 +45,12 @@ check_group-requires-clause-exact c = exact c
 pub check_group-requires-clause-first_bound : goal.check_group-requires-clause-first_bound
 check_group-requires-clause-first_bound c = let l = long c in search rules
 
-pub returns-in-Refused : goal.returns-in-Refused
-returns-in-Refused c =
+pub returns-in_err-check_group : goal.returns-in_err-check_group
+returns-in_err-check_group c =
     let l = c.loop-face in
-    let s = (goal.at.returns-in-Refused c).After-first-section in
-    section_stops l.invariant.walk c.loop-face-test.true c.args.faces (search rules) l.first _ c.first-section.ensures.count (are s) (follows s) l.invariant.left c.check_group.ensures (ap check_meaning c.in-Refused.is)
+    let s = (goal.at.returns-in_err-check_group c).After-first-section in
+    handed_on _ _ c.from_residual.ensures.1
+    ∙ section_stops l.invariant.walk c.loop-face-test.true c.args.faces (search rules) l.first _ c.first-section.ensures.count (are s) (follows s) l.invariant.left c.in_err-check_group.ensures refl
 
 pub overflow_add-first : goal.overflow_add-first
 overflow_add-first c =
@@ -65,7 +66,7 @@ loop-face-preserved c =
     record {
       walk = walk_on l.invariant.walk c.loop-face-test.true (follows s);
       first = omega (arith, l.invariant.first, long s, few s);
-      left = section_on l.invariant.walk c.loop-face-test.true c.args.faces (search rules) l.first _ c.first-section.ensures.count (are s) (follows s) l.invariant.left c.check_group.ensures (ap check_meaning c.in-Passed.is);
+      left = section_on l.invariant.walk c.loop-face-test.true c.args.faces (search rules) l.first _ c.first-section.ensures.count (are s) (follows s) l.invariant.left c.in_ok-check_group.ensures refl;
     }
 
 pub returns : goal.returns

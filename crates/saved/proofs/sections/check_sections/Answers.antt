@@ -6,7 +6,7 @@ use Rattle.saved.proofs.sections.check_sections.Goals as goal
 pub returns-in-None : goal.returns-in-None
 returns-in-None c =
     let l = c.loop-section in
-    sections_stop c.args.size l.section 7 l.rest.now l.invariant c.loop-section-test.true c.in-None.ensures
+    rw c.at.ensures (sections_stop c.args.size l.section 7 l.rest.now l.invariant c.loop-section-test.true c.in-None.ensures)
 
 pub loop-section-preserved : goal.loop-section-preserved
 loop-section-preserved c =
@@ -18,7 +18,7 @@ returns-then-not-is_empty c =
     let l = c.loop-section in
     let seven : l.section ≡ 7 = omega arith in
     let some : 1 ≤ length l.rest.now = search (rules, tests) in
-    rw seven at ((sections_end c.args.size l.section 7 l.rest.now l.invariant c.loop-section-test.false).0 some)
+    rw c.at-then-not-is_empty.ensures (rw seven at ((sections_end c.args.size l.section 7 l.rest.now l.invariant c.loop-section-test.false).0 some))
 
 pub returns : goal.returns
 returns c =

@@ -1,12 +1,11 @@
 -- `write` meets its contract: it looks whether the file fits, and writes it where it does.
-use Rattle.std.proofs.Common.{rules, ◌≡◌, ℕ, ◌+◌, ◌*◌, ◌≤◌, ◌<◌, List, ◌++◌, length, drop, sym, ap, ◌∙◌, arith, length-take-le}
+use Rattle.std.proofs.Common.{rules, ◌≡◌, ℕ, ◌+◌, ◌*◌, ◌≤◌, ◌<◌, List, ◌++◌, length, drop, sym, ◌∙◌, arith, length-take-le}
 use native.Mathlib.Nat.{mul-le-mul_left}
 use Rattle.geometry.specs.declared.face.OrientedBlockFace.{OrientedBlockFace}
-use Rattle.geometry.specs.Refusal.{accepted, checked}
+use Rattle.geometry.specs.Refusal.{accepted, refused, checked}
 use Rattle.listing.specs.Listing.{overwritten}
-use Rattle.writing.specs.declared.written.WriteAnswer.{WriteAnswer}
 use Rattle.writing.specs.Handed.{most_quads, handed_checks}
-use Rattle.writing.specs.Written.{outcome, refused_answer, accepted_answer}
+use Rattle.writing.specs.Written.{write_answer, outcome}
 use Rattle.writing.specs.Statements.{Passes}
 use Rattle.writing.proofs.Ordered.{order_passed}
 use Rattle.writing.proofs.Outcome.{short_refused, enough_written}
@@ -19,15 +18,15 @@ use Rattle.saved.proofs.write.HandedMesh.write.Goals.{After-quad_size}
 
 module _ (form : Form) (faces : List OrientedBlockFace) (counts list out : List ℕ) (passed : checked (handed_checks form.numbers faces counts list) ≡ accepted tt) where
   -- A file that is longer than the output is refused by 15,
-  short : {r : WriteAnswer} → r ≡ refused_answer 15 0 → length out < length (file_of form faces counts list) → outcome r out ≡ write_form form (handed_checks form.numbers faces counts list) faces counts list out
+  short : length out < length (file_of form faces counts list) → outcome (write_answer (refused 15 0)) out ≡ write_form form (handed_checks form.numbers faces counts list) faces counts list out
   unfolding write_form
-  short is h = ap (λ (r : WriteAnswer). outcome r out) is ∙ sym (short_refused (handed_checks form.numbers faces counts list) (file_of form faces counts list) out passed h)
+  short h = sym (short_refused (handed_checks form.numbers faces counts list) (file_of form faces counts list) out passed h)
 
   -- and any other is written, and its length answered.
-  writes : {r : WriteAnswer} {n : ℕ} {new : List ℕ} → r ≡ accepted_answer n → n ≡ length (file_of form faces counts list) → new ≡ file_of form faces counts list
-      → n ≤ length out → outcome r (new ++ drop n out) ≡ write_form form (handed_checks form.numbers faces counts list) faces counts list out
+  writes : {n : ℕ} {new : List ℕ} → n ≡ length (file_of form faces counts list) → new ≡ file_of form faces counts list
+      → n ≤ length out → outcome (write_answer (accepted n)) (new ++ drop n out) ≡ write_form form (handed_checks form.numbers faces counts list) faces counts list out
   unfolding write_form overwritten
-  writes is long left h = rw (is, left, long) (sym (enough_written (handed_checks form.numbers faces counts list) (file_of form faces counts list) out passed (rw (← long) h)))
+  writes long left h = rw (left, long) (sym (enough_written (handed_checks form.numbers faces counts list) (file_of form faces counts list) out passed (rw (← long) h)))
 
 passes : (c : After-quad_size) → Passes c.args.self.now.form.numbers c.args.self.now.faces c.args.self.now.counts c.args.self.now.quads.now
 passes c = order_passed c.args.self.now.form.numbers c.args.self.now.faces c.args.self.now.counts c.args.self.now.quads.now c.args.self.now.passes
@@ -54,7 +53,7 @@ overflow_add-length-2 c = record { fits = omega (arith, few c, c.args.self.now.f
 pub returns-then-out-length : goal.returns-then-out-length
 returns-then-out-length c =
     let a = c.args in
-    short (form_of a.self.now.form) a.self.now.faces a.self.now.counts a.self.now.quads.now a.out.now c.args.self.now.passes c.refused.ensures (omega (arith, long (goal.at.returns-then-out-length c).After-quad_size, c.if-out-length.true))
+    rw c.at.ensures (short (form_of a.self.now.form) a.self.now.faces a.self.now.counts a.self.now.quads.now a.out.now c.args.self.now.passes (omega (arith, long (goal.at.returns-then-out-length c).After-quad_size, c.if-out-length.true)))
 
 pub file-requires : goal.file-requires
 file-requires c = length-take-le _ c.args.out.now c.if-out-length.false ∙ long (goal.at.file-requires c).After-quad_size
@@ -62,4 +61,4 @@ file-requires c = length-take-le _ c.args.out.now c.if-out-length.false ∙ long
 pub returns : goal.returns
 returns c =
     let a = c.args in
-    writes (form_of a.self.now.form) a.self.now.faces a.self.now.counts a.self.now.quads.now a.out.now c.args.self.now.passes c.accepted.ensures (long (goal.at.returns c).After-quad_size) c.file.ensures c.if-out-length.false
+    writes (form_of a.self.now.form) a.self.now.faces a.self.now.counts a.self.now.quads.now a.out.now c.args.self.now.passes (long (goal.at.returns c).After-quad_size) c.file.ensures c.if-out-length.false
