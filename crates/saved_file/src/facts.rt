@@ -1,5 +1,5 @@
 // What is told of quads: how many there are, their area, and the bounds of their corners.
-use geometry::face::{CornersAnswer, OrientedBlockFace};
+use geometry::face::OrientedBlockFace;
 use geometry::quad::UnorientedQuad;
 use geometry::vector::UVec3;
 use std::fmt;
@@ -48,7 +48,7 @@ impl Facts {
     // Of one quad on a face.
     pub fn of(face: OrientedBlockFace, quad: UnorientedQuad) -> Facts {
         match face.quad_corners(quad) {
-            CornersAnswer::Corners(corners) => Facts {
+            Ok(corners) => Facts {
                 quads: 1,
                 area: u64::from(quad.width) * u64::from(quad.height),
                 bounds: [
@@ -61,7 +61,7 @@ impl Facts {
                 .map(Bounds::of)
                 .reduce(Bounds::join),
             },
-            CornersAnswer::Refused(_) => Facts::default(),
+            Err(_) => Facts::default(),
         }
     }
 

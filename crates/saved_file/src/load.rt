@@ -2,8 +2,7 @@
 use crate::refused::Refused;
 use crate::say::{Failure, Wrong};
 use geometry::face::OrientedBlockFace;
-use listing::MeshAnswer;
-use saved::{QUAD_NUMBERS, ReadAnswer};
+use saved::{QUAD_NUMBERS, SavedMesh};
 use std::io::Read;
 
 // The most quads that this command holds.
@@ -32,20 +31,9 @@ pub fn read<R: Input + AllocGlobal>(rt: &R) -> Result<File, Failure> {
         return Err(Wrong::LongFile.into());
     }
     let mut quads = vec![in rt.alloc(); 0u32; MOST_QUADS * QUAD_NUMBERS]?;
-    let ReadAnswer { mesh, faces } = saved::read_saved(&bytes, &mut quads);
-    let MeshAnswer {
-        refusal,
-        place,
-        counts,
-    } = mesh;
-    if refusal != 0 {
-        let refused = Refused {
-            number: refusal,
-            place,
-            bytes,
-        };
-        return Err(Wrong::File(refused).into());
-    }
+    let SavedMesh { faces, counts } = saved::read_saved(&bytes, &mut quads).map_err(
+        |refusal| Wrong::File(Refused { refusal, bytes }),
+    )?;
     Ok(File {
         bytes: got,
         faces,

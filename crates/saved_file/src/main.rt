@@ -29,8 +29,8 @@ const MOST_TEXT: usize = 3000000;
 // Prints the quads of a file as OBJ text.
 fn write_obj<R: Print + AllocGlobal>(rt: &R, file: &File) -> Result<(), Failure> {
     let mut text = vec![in rt.alloc(); 0u8; MOST_TEXT]?;
-    let answer = obj::write_obj(file.faces, file.counts, &file.quads, &mut text);
-    text.truncate(say::written(answer)?);
+    let written = obj::write_obj(file.faces, file.counts, &file.quads, &mut text)?;
+    text.truncate(written);
     rt.write_all(&text).map_err(|_| Wrong::Unwritten)?;
     Ok(())
 }

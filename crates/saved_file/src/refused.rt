@@ -1,10 +1,10 @@
 // What is said of a file that is refused: what is wrong with it, and at which byte, counted from 0.
+use geometry::refusal::{Reason, Refusal};
 use std::fmt;
 
 #[derive(Debug, Drop)]
 pub struct Refused {
-    pub number: u32,
-    pub place: u64,
+    pub refusal: Refusal,
     // The file.
     pub bytes: Vec<u8>,
 }
@@ -47,7 +47,7 @@ impl Refused {
 
     // 16: a section that ends early, or bytes after the last.
     fn file<W: fmt::Write>(&self, at: usize, f: &mut fmt::Formatter<W>) -> fmt::Result {
-        match self.place {
+        match self.refusal.place {
             0 => self.head(f),
             7 => write!(
                 f,
@@ -60,7 +60,7 @@ impl Refused {
 
     // 17: a face byte, and where it stands.
     fn face<W: fmt::Write>(&self, at: usize, f: &mut fmt::Formatter<W>) -> fmt::Result {
-        let face = self.place;
+        let face = self.refusal.place;
         let byte = self.bytes.get(at).copied().unwrap_or(0);
         write!(
             f,
@@ -71,7 +71,7 @@ impl Refused {
 
     // 12: a quad, from its first byte on.
     fn quad<W: fmt::Write>(&self, at: usize, f: &mut fmt::Formatter<W>) -> fmt::Result {
-        write!(f, "quad {} is ", self.place)?;
+        write!(f, "quad {} is ", self.refusal.place)?;
         let quad = self.bytes.get(at..).unwrap_or(&[]);
         for number in quad.as_chunks::<4>().0.iter().take(saved::QUAD_NUMBERS) {
             write!(f, "{} ", u32::from_le_bytes(*number))?;
@@ -86,12 +86,14 @@ impl Refused {
 
 impl fmt::Display for Refused {
     fn fmt<W: fmt::Write>(&self, f: &mut fmt::Formatter<W>) -> fmt::Result {
-        write!(f, "refused by {} at {}: ", self.number, self.place)?;
-        let at = saved::refusal_byte(&self.bytes, self.number, self.place) as usize;
-        match self.number {
-            12 => self.quad(at, f),
-            16 => self.file(at, f),
-            17 => self.face(at, f),
+        let Refusal { reason, place } = self.refusal;
+        let number = u32::from(reason);
+        write!(f, "refused by {number} at {place}: ")?;
+        let at = saved::refusal_byte(&self.bytes, number, place) as usize;
+        match reason {
+            Reason::QuadLimits => self.quad(at, f),
+            Reason::File => self.file(at, f),
+            Reason::NoSuchNumber => self.face(at, f),
             _ => f.write_str("the file is refused"),
         }
     }

@@ -1,9 +1,9 @@
 // What is said on standard error: what was wrong, and where.
 use crate::refused::Refused;
+use geometry::refusal::{Reason, Refusal};
 use std::alloc::AllocError;
 use std::{fmt, io};
 use thiserror::Error;
-use writing::written::{SHORT_OUTPUT, WriteAnswer};
 
 // What this command is for, and where more is to be had.
 const LIMITS: &str =
@@ -37,6 +37,13 @@ impl Failure {
 impl From<Wrong> for Failure {
     fn from(wrong: Wrong) -> Failure {
         Failure::Wrong(wrong)
+    }
+}
+
+// A refusal of the OBJ writer.
+impl From<Refusal> for Failure {
+    fn from(refusal: Refusal) -> Failure {
+        Failure::Wrong(Wrong::Text(TextRefused(refusal)))
     }
 }
 
@@ -78,32 +85,18 @@ pub enum Wrong {
     Unwritten,
 }
 
-// That the OBJ text was refused. The numbers are document 02's; those that the mesh of a file cannot get
-// are left out.
+// That the OBJ text was refused. The reasons that the mesh of a file cannot get have no words of their
+// own.
 #[derive(Clone, Copy, Debug)]
-pub struct TextRefused {
-    number: u32,
-    place: u64,
-}
+pub struct TextRefused(Refusal);
 
 impl fmt::Display for TextRefused {
     fn fmt<W: fmt::Write>(&self, f: &mut fmt::Formatter<W>) -> fmt::Result {
-        let TextRefused { number, place } = *self;
-        write!(f, "refused by {number} at {place}: ")?;
-        match number {
-            SHORT_OUTPUT => write!(f, "the OBJ text is too long: {LIMITS}"),
+        let Refusal { reason, place } = self.0;
+        write!(f, "refused by {} at {place}: ", u32::from(reason))?;
+        match reason {
+            Reason::ShortOutput => write!(f, "the OBJ text is too long: {LIMITS}"),
             _ => f.write_str("the mesh is refused"),
         }
-    }
-}
-
-// What a writer answers: how many bytes it wrote.
-pub fn written(answer: WriteAnswer) -> Result<usize, Wrong> {
-    match answer.refusal {
-        0 => Ok(answer.written as usize),
-        number => Err(Wrong::Text(TextRefused {
-            number,
-            place: answer.place,
-        })),
     }
 }
