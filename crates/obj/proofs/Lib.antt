@@ -1,7 +1,6 @@
 -- Laws, and what is shown of the contracts themselves. A function's own proof stands in the folder named after it.
 -- Of bytes that a writer puts into its output, and of bytes put into an output that is lent.
 pub mod Writer
-pub mod Page
 -- Of lists end to end.
 pub mod Joined
 -- Of how long a quad's lines are.

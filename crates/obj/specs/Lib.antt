@@ -11,4 +11,3 @@ pub mod Statements
 pub mod Examples
 -- For private contracts alone:
 pub mod Writer
-pub mod Page
