@@ -3,7 +3,6 @@ use crate::given::Given;
 use crate::show;
 use geometry::axis::{Axis, AxisPermutation, SignedAxis};
 use geometry::face::OrientedBlockFace;
-use geometry::refusal::Refusal;
 use geometry::vector::IVec3;
 use std::io::{self, Write};
 
@@ -14,7 +13,7 @@ fn unit(out: &mut impl Write, a: Axis) -> io::Result<()> {
 
 // A permutation's n, u and v, its sign and its number, and of its n the index and the even and the odd
 // permutation.
-fn named(out: &mut impl Write, p: AxisPermutation) -> io::Result<()> {
+fn named<W: Write>(out: &mut W, p: AxisPermutation) -> io::Result<()> {
     let axes = p.axes();
     unit(out, axes.n)?;
     unit(out, axes.u)?;
@@ -29,36 +28,29 @@ fn named(out: &mut impl Write, p: AxisPermutation) -> io::Result<()> {
 }
 
 // A permutation's number.
-pub fn order(out: &mut impl Write, given: &mut Given<'_>) -> io::Result<()> {
-    match AxisPermutation::try_from(given.number()) {
-        Ok(p) => named(out, p),
-        Err(refused) => show::refusal(out, refused),
-    }
+pub fn order<W: Write>(out: &mut W, given: &mut Given<'_>) -> io::Result<()> {
+    show::came(out, AxisPermutation::try_from(given.number()), named)
 }
 
-// A signed axis that came: its sign, its axis, its unit vector and its canonical face; or a refusal.
-fn signed_axis(out: &mut impl Write, came: Result<SignedAxis, Refusal>) -> io::Result<()> {
-    match came {
-        Ok(a) => {
-            show::sign(out, a.signum())?;
-            unit(out, a.unsigned_axis())?;
-            show::direction(out, a.get_unit_vector())?;
-            show::face(out, OrientedBlockFace::canonical(a))
-        }
-        Err(refused) => show::refusal(out, refused),
-    }
+// A signed axis: its sign, its axis, its unit vector and its canonical face.
+fn signed_axis<W: Write>(out: &mut W, a: SignedAxis) -> io::Result<()> {
+    show::sign(out, a.signum())?;
+    unit(out, a.unsigned_axis())?;
+    show::direction(out, a.get_unit_vector())?;
+    show::face(out, OrientedBlockFace::canonical(a))
 }
 
 // A sign and an axis' index, as a signed axis.
-pub fn sign(out: &mut impl Write, given: &mut Given<'_>) -> io::Result<()> {
+pub fn sign<W: Write>(out: &mut W, given: &mut Given<'_>) -> io::Result<()> {
     let sign = given.signed();
-    signed_axis(out, SignedAxis::new(sign, given.axis()))
+    let made = SignedAxis::new(sign, given.axis());
+    show::came(out, made, signed_axis)
 }
 
 // The three numbers of a vector, as a signed axis.
-pub fn direction(out: &mut impl Write, given: &mut Given<'_>) -> io::Result<()> {
+pub fn direction<W: Write>(out: &mut W, given: &mut Given<'_>) -> io::Result<()> {
     let x = given.signed();
     let y = given.signed();
     let z = given.signed();
-    signed_axis(out, SignedAxis::from_vector(IVec3 { x, y, z }))
+    show::came(out, SignedAxis::from_vector(IVec3 { x, y, z }), signed_axis)
 }

@@ -2,50 +2,29 @@
 use crate::given::{self, Given};
 use crate::show;
 use geometry::face::{
-    Corner, Normal, OrientedBlockFace, Position, QuadNormals, QuadPositions, VertexIndex,
+    Corner, Normal, OrientedBlockFace, Position, QuadCorners, QuadIndices, QuadNormals,
+    QuadPositions, QuadTexCoords, VertexIndex,
 };
 use geometry::quad::{UnorientedQuad, UnorientedUnitQuad};
-use geometry::refusal::Refusal;
-use geometry::vector::IVec3;
 use std::io::{self, Write};
 
-// A face's normals at a quad's four corners.
-fn normals(out: &mut impl Write, came: Result<QuadNormals, Refusal>) -> io::Result<()> {
-    match came {
-        Ok(q) => {
-            for Normal { x, y, z } in [q.minu_minv, q.maxu_minv, q.minu_maxv, q.maxu_maxv] {
-                show::floats(out, &[x, y, z])?;
-            }
-            Ok(())
-        }
-        Err(refused) => show::refusal(out, refused),
+// The normals at a quad's four corners.
+fn normals<W: Write>(out: &mut W, q: QuadNormals) -> io::Result<()> {
+    for Normal { x, y, z } in [q.minu_minv, q.maxu_minv, q.minu_maxv, q.maxu_maxv] {
+        show::floats(out, &[x, y, z])?;
     }
-}
-
-// The face that a sign and a permutation make.
-fn made(out: &mut impl Write, came: Result<OrientedBlockFace, Refusal>) -> io::Result<()> {
-    match came {
-        Ok(f) => show::face(out, f),
-        Err(refused) => show::refusal(out, refused),
-    }
-}
-
-// A face's signed normal.
-fn normal(out: &mut impl Write, came: Result<IVec3, Refusal>) -> io::Result<()> {
-    match came {
-        Ok(v) => show::direction(out, v),
-        Err(refused) => show::refusal(out, refused),
-    }
+    Ok(())
 }
 
 // A sign and a permutation's number: the face that is made of them. Then, of the face as it is given,
 // check 6, the signed normal and the normals.
-pub fn face(out: &mut impl Write, given: &mut Given<'_>) -> io::Result<()> {
+pub fn face<W: Write>(out: &mut W, given: &mut Given<'_>) -> io::Result<()> {
     let f = given.face(out)?;
-    made(out, OrientedBlockFace::new(f.n_sign, f.permutation))?;
+    let made = OrientedBlockFace::new(f.n_sign, f.permutation);
+    show::came(out, made, show::face)?;
     show::check(out, f.check_sign())?;
-    normal(out, f.signed_normal())?;
-    normals(out, f.quad_mesh_normals())
+    show::came(out, f.signed_normal(), show::direction)?;
+    show::came(out, f.quad_mesh_normals(), normals)
 }
 
 // The point of a unit quad: the quad that it is.
@@ -56,41 +35,33 @@ pub fn unit_quad(out: &mut impl Write, given: &mut Given<'_>) -> io::Result<()> 
     show::numbers(out, &[p.x, p.y, p.z, q.width, q.height])
 }
 
+// A quad's four corners.
+fn four_corners<W: Write>(out: &mut W, q: QuadCorners) -> io::Result<()> {
+    for corner in [q.minu_minv, q.maxu_minv, q.minu_maxv, q.maxu_maxv] {
+        show::point(out, corner)?;
+    }
+    Ok(())
+}
+
 // A face and a quad: check 12 by itself. Then the four corners.
-pub fn corners(out: &mut impl Write, given: &mut Given<'_>) -> io::Result<()> {
+pub fn corners<W: Write>(out: &mut W, given: &mut Given<'_>) -> io::Result<()> {
     let face = given.face(out)?;
     let quad = given::quad(given);
     show::check(out, face.check_quad(quad))?;
-    match face.quad_corners(quad) {
-        Ok(k) => {
-            for corner in [k.minu_minv, k.maxu_minv, k.minu_maxv, k.maxu_maxv] {
-                show::point(out, corner)?;
-            }
-            Ok(())
-        }
-        Err(refused) => show::refusal(out, refused),
-    }
+    show::came(out, face.quad_corners(quad), four_corners)
 }
 
 // The position of a corner.
-fn one(out: &mut impl Write, came: Result<Position, Refusal>) -> io::Result<()> {
-    match came {
-        Ok(Position { x, y, z }) => show::floats(out, &[x, y, z]),
-        Err(refused) => show::refusal(out, refused),
-    }
+fn one<W: Write>(out: &mut W, p: Position) -> io::Result<()> {
+    show::floats(out, &[p.x, p.y, p.z])
 }
 
 // The positions of a quad's four corners.
-fn four(out: &mut impl Write, came: Result<QuadPositions, Refusal>) -> io::Result<()> {
-    match came {
-        Ok(p) => {
-            for Position { x, y, z } in [p.minu_minv, p.maxu_minv, p.minu_maxv, p.maxu_maxv] {
-                show::floats(out, &[x, y, z])?;
-            }
-            Ok(())
-        }
-        Err(refused) => show::refusal(out, refused),
+fn four<W: Write>(out: &mut W, q: QuadPositions) -> io::Result<()> {
+    for p in [q.minu_minv, q.maxu_minv, q.minu_maxv, q.maxu_maxv] {
+        one(out, p)?;
     }
+    Ok(())
 }
 
 // A corner by its number.
@@ -104,42 +75,43 @@ fn corner(number: u32) -> Corner {
 }
 
 // A face, a quad, a size and a corner: the corner's position. Then those of all four.
-pub fn position(out: &mut impl Write, given: &mut Given<'_>) -> io::Result<()> {
+pub fn position<W: Write>(out: &mut W, given: &mut Given<'_>) -> io::Result<()> {
     let face = given.face(out)?;
     let quad = given::quad(given);
     let size = given::float(given);
     let corner = corner(given.number());
-    one(out, face.quad_mesh_position(quad, corner, size))?;
-    four(out, face.quad_mesh_positions(quad, size))
+    show::came(out, face.quad_mesh_position(quad, corner, size), one)?;
+    show::came(out, face.quad_mesh_positions(quad, size), four)
 }
 
-// A face and its first vertex: the six vertices of two triangles.
-pub fn indices(out: &mut impl Write, given: &mut Given<'_>) -> io::Result<()> {
-    let face = given.face(out)?;
-    match face.quad_mesh_indices(VertexIndex(given.number())) {
-        Ok(i) => {
-            for vertex in [i.0, i.1, i.2, i.3, i.4, i.5] {
-                show::number(out, vertex.0)?;
-            }
-            Ok(())
-        }
-        Err(refused) => show::refusal(out, refused),
+// The six vertices of two triangles.
+fn vertices<W: Write>(out: &mut W, i: QuadIndices) -> io::Result<()> {
+    for vertex in [i.0, i.1, i.2, i.3, i.4, i.5] {
+        show::number(out, vertex.0)?;
     }
+    Ok(())
+}
+
+// A face and its first vertex: the six vertices of its triangles.
+pub fn indices<W: Write>(out: &mut W, given: &mut Given<'_>) -> io::Result<()> {
+    let face = given.face(out)?;
+    let start = VertexIndex(given.number());
+    show::came(out, face.quad_mesh_indices(start), vertices)
+}
+
+// Four texture pairs.
+fn pairs<W: Write>(out: &mut W, q: QuadTexCoords) -> io::Result<()> {
+    for pair in [q.minu_minv, q.maxu_minv, q.minu_maxv, q.maxu_maxv] {
+        show::floats(out, &[pair.u, pair.v])?;
+    }
+    Ok(())
 }
 
 // A face, a quad, the axis whose faces have u flipped, and whether v is flipped: four texture pairs.
-pub fn textures(out: &mut impl Write, given: &mut Given<'_>) -> io::Result<()> {
+pub fn textures<W: Write>(out: &mut W, given: &mut Given<'_>) -> io::Result<()> {
     let face = given.face(out)?;
     let quad = given::quad(given);
     let axis = given.axis();
     let flip = given.number() != 0;
-    match face.tex_coords(axis, flip, quad) {
-        Ok(t) => {
-            for pair in [t.minu_minv, t.maxu_minv, t.minu_maxv, t.maxu_maxv] {
-                show::floats(out, &[pair.u, pair.v])?;
-            }
-            Ok(())
-        }
-        Err(refused) => show::refusal(out, refused),
-    }
+    show::came(out, face.tex_coords(axis, flip, quad), pairs)
 }

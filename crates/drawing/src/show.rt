@@ -14,21 +14,28 @@ pub fn sign(out: &mut impl Write, n: i32) -> io::Result<()> {
 }
 
 // A direction's three numbers.
-pub fn direction(out: &mut impl Write, v: IVec3) -> io::Result<()> {
+pub fn direction<W: Write>(out: &mut W, v: IVec3) -> io::Result<()> {
     sign(out, v.x)?;
     sign(out, v.y)?;
     sign(out, v.z)
 }
 
 // A face: its sign and its permutation's number.
-pub fn face(out: &mut impl Write, f: OrientedBlockFace) -> io::Result<()> {
+pub fn face<W: Write>(out: &mut W, f: OrientedBlockFace) -> io::Result<()> {
     sign(out, f.n_sign)?;
     number(out, u32::from(f.permutation))
 }
 
-// A refusal's number.
-pub fn refusal(out: &mut impl Write, refused: Refusal) -> io::Result<()> {
-    number(out, u32::from(refused.reason))
+// What a call of the drawing code gives: its value by `write`, or its refusal's number.
+pub fn came<W: Write, T, F>(out: &mut W, answer: Result<T, Refusal>, write: F) -> io::Result<()>
+where
+    F: FnOnce(&mut W, T) -> io::Result<()>,
+    requires { F.IsAlwaysCallable write }
+{
+    match answer {
+        Ok(value) => write(out, value),
+        Err(refused) => number(out, u32::from(refused.reason)),
+    }
 }
 
 // f32 numbers, each by its bits: eight digits of base 16 after an x. A NaN, which no call gives, is
