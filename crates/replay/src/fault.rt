@@ -1,60 +1,47 @@
 // What can be wrong with a list or with a record of one.
 use std::alloc::{AllocError, AllocFailed};
-use std::{fmt, io};
+use std::io;
 
 // What is wrong with a record. Its text goes on from the record's number.
-#[derive(Clone, Copy, Debug)]
+#[derive(Clone, Copy, Debug, thiserror::Error)]
 pub enum Fault {
+    #[error("is not all numbers from 0 to 4294967295 with a space between")]
     NoNumber,
+    #[error("has more than 512 numbers")]
     TooLong,
+    #[error("is cut off by the end of the list")]
     Cut,
+    #[error("has not as many numbers as it says")]
     NotItsLength,
+    #[error("is of no kind of call")]
     NoKind,
+    #[error("has not as many numbers as such a call and its answer")]
     NotACall,
+    #[error("has an answer that its source does not give")]
     NoSource,
+    #[error("has an axis, a sign or a flag that is none")]
     NoInput,
+    #[error("has a buffer of more than 4096 elements")]
     Large,
+    #[error("has an answer that is longer than its buffer")]
     Small,
+    #[error("has not as many voxels in its runs as it says")]
     Runs,
 }
 
-impl fmt::Display for Fault {
-    fn fmt<W: fmt::Write>(&self, f: &mut fmt::Formatter<W>) -> fmt::Result {
-        f.write_str(match self {
-            Fault::NoNumber => "is not all numbers from 0 to 4294967295 with a space between",
-            Fault::TooLong => "has more than 512 numbers",
-            Fault::Cut => "is cut off by the end of the list",
-            Fault::NotItsLength => "has not as many numbers as it says",
-            Fault::NoKind => "is of no kind of call",
-            Fault::NotACall => "has not as many numbers as such a call and its answer",
-            Fault::NoSource => "has an answer that its source does not give",
-            Fault::NoInput => "has an axis, a sign or a flag that is none",
-            Fault::Large => "has a buffer of more than 4096 elements",
-            Fault::Small => "has an answer that is longer than its buffer",
-            Fault::Runs => "has not as many voxels in its runs as it says",
-        })
-    }
-}
-
 // What is wrong with a list.
-#[derive(Clone, Copy, Debug)]
+#[derive(Clone, Copy, Debug, thiserror::Error)]
 pub enum ListFault {
+    #[error("the list is longer than 262143 bytes")]
     Long,
+    #[error("the list ends before the line 0, which ends it")]
     NoEnd,
+    #[error("the list goes on after the line 0, which ends it")]
     GoesOn,
 }
 
-impl fmt::Display for ListFault {
-    fn fmt<W: fmt::Write>(&self, f: &mut fmt::Formatter<W>) -> fmt::Result {
-        f.write_str(match self {
-            ListFault::Long => "the list is longer than 262143 bytes",
-            ListFault::NoEnd => "the list ends before the line 0, which ends it",
-            ListFault::GoesOn => "the list goes on after the line 0, which ends it",
-        })
-    }
-}
-
-// Why a record was not replayed to its end.
+// Why a record was not replayed to its end. By hand: it is never printed, and of what it is made from two
+// go by `io::Error`.
 #[derive(Debug, Drop)]
 pub enum Error {
     // It is malformed.

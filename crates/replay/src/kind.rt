@@ -38,19 +38,11 @@ impl TryFrom<u32> for Kind {
     type Error = Fault;
 
     fn try_from(number: u32) -> Result<Kind, Fault> {
-        match number {
-            1 => Ok(Kind::GreedyQuads),
-            2 => Ok(Kind::VisibleBlockFaces),
-            3 => Ok(Kind::QuadMeshPosition),
-            4 => Ok(Kind::QuadCorners),
-            5 => Ok(Kind::QuadMeshNormals),
-            6 => Ok(Kind::QuadMeshIndices),
-            7 => Ok(Kind::TexCoords),
-            8 => Ok(Kind::SignedAxisNew),
-            9 => Ok(Kind::SignedAxisFromVector),
-            10 => Ok(Kind::Canonical),
-            _ => Err(Fault::NoKind),
-        }
+        number
+            .checked_sub(1)
+            .and_then(|k| Kind::ALL.get(k as usize))
+            .copied()
+            .ok_or(Fault::NoKind)
     }
 }
 

@@ -1,21 +1,17 @@
 // The text of a list: a line is a record of numbers with a space between, or a comment.
 use crate::fault::{Error, Fault};
 use std::alloc::Global;
+use std::str;
 
 // The most numbers of a record, its length among them.
 const MOST: usize = 512;
 
 // The number that some bytes spell: at most ten digits.
 fn number(digits: &[u8]) -> Option<u32> {
-    if digits.is_empty() || digits.len() > 10 {
+    if digits.len() > 10 || !digits.iter().all(|byte| byte.is_ascii_digit()) {
         return None;
     }
-    let mut number = 0u32;
-    for byte in digits {
-        let digit = char::from(*byte).to_digit(10)?;
-        number = number.checked_mul(10)?.checked_add(digit)?;
-    }
-    Some(number)
+    str::from_utf8(digits).ok()?.parse::<u32>().ok()
 }
 
 // Whether a line is the number 0 alone, which ends a list.
