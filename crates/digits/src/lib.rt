@@ -6,7 +6,9 @@ mod lots;
 ghost use Rattle.std.specs.Prelude.{◌≡◌, length};
 ghost use Rattle.digits.specs.Decimal.{digits, part, spelt, spelling};
 
-// How many digits a number has. Small numbers are the usual ones, and are told first.
+// How many digits a number has. Small numbers are the usual ones, and are told first. With a `match` of
+// ranges, which is tested from its middle, a mesh of small ones is measured (bench/run, sphere, one byte
+// short) by 7 % more instructions, and with `checked_ilog10` by 26 % more.
 pub fn places(n: u32) -> usize
     ensures { result ≡ length (digits n) }
 {
@@ -49,10 +51,8 @@ fn tight(n: u32, out: &mut [u8]) -> usize
     if out.len() < count {
         return 0;
     }
-    let mut at = count;
     let mut rest = n;
-    while at > 0 {
-        at -= 1;
+    for at in (0..count).rev() {
         out[at] = b'0' + (rest % 10) as u8;
         rest /= 10;
     }
@@ -62,6 +62,8 @@ fn tight(n: u32, out: &mut [u8]) -> usize
 // Writes a number's digits at the start of the scratch and answers how many there are. Where they do
 // not fit it answers 0, and the scratch is as it was. Any number fits into ten bytes, and there nothing
 // is counted first; small numbers are told first again.
+// 0 and no Option: it is the answer of spunmarrow_decimal, and no number has 0 digits.
+#[tactic(auto, using(crate::proofs::InLots::spelled_set))]
 pub fn spell(n: u32, scratch: &mut [u8]) -> usize
     ensures { spelt result scratch.new ≡ spelling n scratch.old }
 {

@@ -1,24 +1,26 @@
 // Which call a line makes.
-use crate::{axes, draw, show, text};
-use std::io;
+use crate::{axes, draw, show};
+use calls::{Call, Calls};
+use std::io::{self, Write};
 
-// Makes the call of a line and prints what comes out of it: the call's name stands after the label and
-// `: `, and what it is given after the name. The name's first letter says which call it is; a
-// question mark is printed for any other.
-pub fn make(rt: &impl Print, list: &[u8], line: usize) -> io::Result<()> {
-    let name = text::next(text::next(text::find(list, line, b':')));
-    let at = text::next(text::find(list, name, b' '));
-    let letter = text::byte(list, name);
-    match letter {
-        b'o' => axes::order(rt, list, at),
-        b's' => axes::sign(rt, list, at),
-        b'd' => axes::direction(rt, list, at),
-        b'f' => draw::face(rt, list, at),
-        b'q' => draw::unit_quad(rt, list, at),
-        b'c' => draw::corners(rt, list, at),
-        b'p' => draw::position(rt, list, at),
-        b'i' => draw::indices(rt, list, at),
-        b't' => draw::textures(rt, list, at),
-        _ => show::byte(rt, b'?'),
+// The calls of the drawing code.
+pub struct Drawing;
+
+impl Calls for Drawing {
+    // The letter says which call it is; a question mark is written for any other.
+    fn make<W: Write>(&self, out: &mut W, call: Call<'_>) -> io::Result<()> {
+        let mut given = call.given;
+        match call.letter {
+            Some(b'o') => axes::order(out, &mut given),
+            Some(b's') => axes::sign(out, &mut given),
+            Some(b'd') => axes::direction(out, &mut given),
+            Some(b'f') => draw::face(out, &mut given),
+            Some(b'q') => draw::unit_quad(out, &mut given),
+            Some(b'c') => draw::corners(out, &mut given),
+            Some(b'p') => draw::position(out, &mut given),
+            Some(b'i') => draw::indices(out, &mut given),
+            Some(b't') => draw::textures(out, &mut given),
+            _ => show::unknown(out),
+        }
     }
 }

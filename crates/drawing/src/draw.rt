@@ -1,98 +1,67 @@
 // What is drawn of a face and of its quads: what comes out is the answer's numbers, or a refusal.
-use crate::{given, show, text};
+use crate::given::{self, Given};
+use crate::show;
 use geometry::face::{
-    Corner, CornersAnswer, FaceAnswer, IndicesAnswer, NormalsAnswer, OrientedBlockFace,
-    PositionAnswer, PositionsAnswer, SignedNormalAnswer, TexCoordsAnswer, VertexIndex,
+    Corner, Normal, OrientedBlockFace, Position, QuadCorners, QuadIndices, QuadNormals,
+    QuadPositions, QuadTexCoords, VertexIndex,
 };
 use geometry::quad::{UnorientedQuad, UnorientedUnitQuad};
-use std::io;
+use std::io::{self, Write};
 
-// A face's normals at a quad's four corners.
-fn normals(rt: &impl Print, came: NormalsAnswer) -> io::Result<()> {
-    match came {
-        NormalsAnswer::Normals(q) => {
-            show::floats(rt, q.minu_minv.x, q.minu_minv.y, q.minu_minv.z)?;
-            show::floats(rt, q.maxu_minv.x, q.maxu_minv.y, q.maxu_minv.z)?;
-            show::floats(rt, q.minu_maxv.x, q.minu_maxv.y, q.minu_maxv.z)?;
-            show::floats(rt, q.maxu_maxv.x, q.maxu_maxv.y, q.maxu_maxv.z)
-        }
-        NormalsAnswer::Refused(n) => show::number(rt, n),
+// The normals at a quad's four corners.
+fn normals<W: Write>(out: &mut W, q: QuadNormals) -> io::Result<()> {
+    for Normal { x, y, z } in [q.minu_minv, q.maxu_minv, q.minu_maxv, q.maxu_maxv] {
+        show::floats(out, &[x, y, z])?;
     }
-}
-
-// The face that a sign and a permutation make.
-fn made(rt: &impl Print, came: FaceAnswer) -> io::Result<()> {
-    match came {
-        FaceAnswer::Face(f) => show::face(rt, f),
-        FaceAnswer::Refused(n) => show::number(rt, n),
-    }
-}
-
-// A face's signed normal.
-fn normal(rt: &impl Print, came: SignedNormalAnswer) -> io::Result<()> {
-    match came {
-        SignedNormalAnswer::SignedNormal(v) => show::direction(rt, v),
-        SignedNormalAnswer::Refused(n) => show::number(rt, n),
-    }
+    Ok(())
 }
 
 // A sign and a permutation's number: the face that is made of them. Then, of the face as it is given,
 // check 6, the signed normal and the normals.
-pub fn face(rt: &impl Print, list: &[u8], at: usize) -> io::Result<()> {
-    let given = given::face(rt, list, at)?;
-    let f = given.face;
-    let permutation = f.permutation;
-    made(rt, OrientedBlockFace::new(f.n_sign, permutation))?;
-    show::check(rt, f.check_sign())?;
-    normal(rt, f.signed_normal())?;
-    normals(rt, f.quad_mesh_normals())
+pub fn face<W: Write>(out: &mut W, given: &mut Given<'_>) -> io::Result<()> {
+    let f = given.face(out)?;
+    let made = OrientedBlockFace::new(f.n_sign, f.permutation);
+    show::came(out, made, show::face)?;
+    show::check(out, f.check_sign())?;
+    show::came(out, f.signed_normal(), show::direction)?;
+    show::came(out, f.quad_mesh_normals(), normals)
 }
 
 // The point of a unit quad: the quad that it is.
-pub fn unit_quad(rt: &impl Print, list: &[u8], at: usize) -> io::Result<()> {
-    let given = given::point(list, at);
-    let minimum = given.point;
+pub fn unit_quad(out: &mut impl Write, given: &mut Given<'_>) -> io::Result<()> {
+    let minimum = given.point();
     let q = UnorientedQuad::from(UnorientedUnitQuad { minimum });
-    show::point(rt, q.minimum)?;
-    show::more(rt, q.width)?;
-    show::more(rt, q.height)
+    let p = q.minimum;
+    show::numbers(out, &[p.x, p.y, p.z, q.width, q.height])
+}
+
+// A quad's four corners.
+fn four_corners<W: Write>(out: &mut W, q: QuadCorners) -> io::Result<()> {
+    for corner in [q.minu_minv, q.maxu_minv, q.minu_maxv, q.maxu_maxv] {
+        show::point(out, corner)?;
+    }
+    Ok(())
 }
 
 // A face and a quad: check 12 by itself. Then the four corners.
-pub fn corners(rt: &impl Print, list: &[u8], at: usize) -> io::Result<()> {
-    let on = given::face(rt, list, at)?;
-    let of = given::quad(list, on.next);
-    show::check(rt, on.face.check_quad(of.quad))?;
-    match on.face.quad_corners(of.quad) {
-        CornersAnswer::Corners(k) => {
-            show::point(rt, k.minu_minv)?;
-            show::point(rt, k.maxu_minv)?;
-            show::point(rt, k.minu_maxv)?;
-            show::point(rt, k.maxu_maxv)
-        }
-        CornersAnswer::Refused(n) => show::number(rt, n),
-    }
+pub fn corners<W: Write>(out: &mut W, given: &mut Given<'_>) -> io::Result<()> {
+    let face = given.face(out)?;
+    let quad = given::quad(given);
+    show::check(out, face.check_quad(quad))?;
+    show::came(out, face.quad_corners(quad), four_corners)
 }
 
 // The position of a corner.
-fn one(rt: &impl Print, came: PositionAnswer) -> io::Result<()> {
-    match came {
-        PositionAnswer::Position(x, y, z) => show::floats(rt, x, y, z),
-        PositionAnswer::Refused(n) => show::number(rt, n),
-    }
+fn one<W: Write>(out: &mut W, p: Position) -> io::Result<()> {
+    show::floats(out, &[p.x, p.y, p.z])
 }
 
 // The positions of a quad's four corners.
-fn four(rt: &impl Print, came: PositionsAnswer) -> io::Result<()> {
-    match came {
-        PositionsAnswer::Positions(p) => {
-            show::floats(rt, p.minu_minv.x, p.minu_minv.y, p.minu_minv.z)?;
-            show::floats(rt, p.maxu_minv.x, p.maxu_minv.y, p.maxu_minv.z)?;
-            show::floats(rt, p.minu_maxv.x, p.minu_maxv.y, p.minu_maxv.z)?;
-            show::floats(rt, p.maxu_maxv.x, p.maxu_maxv.y, p.maxu_maxv.z)
-        }
-        PositionsAnswer::Refused(n) => show::number(rt, n),
+fn four<W: Write>(out: &mut W, q: QuadPositions) -> io::Result<()> {
+    for p in [q.minu_minv, q.maxu_minv, q.minu_maxv, q.maxu_maxv] {
+        one(out, p)?;
     }
+    Ok(())
 }
 
 // A corner by its number.
@@ -106,53 +75,43 @@ fn corner(number: u32) -> Corner {
 }
 
 // A face, a quad, a size and a corner: the corner's position. Then those of all four.
-pub fn position(rt: &impl Print, list: &[u8], at: usize) -> io::Result<()> {
-    let on = given::face(rt, list, at)?;
-    let of = given::quad(list, on.next);
-    let bits = text::number(list, of.next);
-    let which = text::number(list, bits.next);
-    let size = given::float(bits.value);
-    one(
-        rt,
-        on.face
-            .quad_mesh_position(of.quad, corner(which.value), size),
-    )?;
-    four(rt, on.face.quad_mesh_positions(of.quad, size))
+pub fn position<W: Write>(out: &mut W, given: &mut Given<'_>) -> io::Result<()> {
+    let face = given.face(out)?;
+    let quad = given::quad(given);
+    let size = given::float(given);
+    let corner = corner(given.number());
+    show::came(out, face.quad_mesh_position(quad, corner, size), one)?;
+    show::came(out, face.quad_mesh_positions(quad, size), four)
 }
 
-// A face and its first vertex: the six vertices of two triangles.
-pub fn indices(rt: &impl Print, list: &[u8], at: usize) -> io::Result<()> {
-    let on = given::face(rt, list, at)?;
-    let start = text::number(list, on.next);
-    match on.face.quad_mesh_indices(VertexIndex(start.value)) {
-        IndicesAnswer::Indices(i) => {
-            show::number(rt, i.0.0)?;
-            show::number(rt, i.1.0)?;
-            show::number(rt, i.2.0)?;
-            show::number(rt, i.3.0)?;
-            show::number(rt, i.4.0)?;
-            show::number(rt, i.5.0)
-        }
-        IndicesAnswer::Refused(n) => show::number(rt, n),
+// The six vertices of two triangles.
+fn vertices<W: Write>(out: &mut W, i: QuadIndices) -> io::Result<()> {
+    for vertex in [i.0, i.1, i.2, i.3, i.4, i.5] {
+        show::number(out, vertex.0)?;
     }
+    Ok(())
+}
+
+// A face and its first vertex: the six vertices of its triangles.
+pub fn indices<W: Write>(out: &mut W, given: &mut Given<'_>) -> io::Result<()> {
+    let face = given.face(out)?;
+    let start = VertexIndex(given.number());
+    show::came(out, face.quad_mesh_indices(start), vertices)
+}
+
+// Four texture pairs.
+fn pairs<W: Write>(out: &mut W, q: QuadTexCoords) -> io::Result<()> {
+    for pair in [q.minu_minv, q.maxu_minv, q.minu_maxv, q.maxu_maxv] {
+        show::floats(out, &[pair.u, pair.v])?;
+    }
+    Ok(())
 }
 
 // A face, a quad, the axis whose faces have u flipped, and whether v is flipped: four texture pairs.
-pub fn textures(rt: &impl Print, list: &[u8], at: usize) -> io::Result<()> {
-    let on = given::face(rt, list, at)?;
-    let of = given::quad(list, on.next);
-    let axis = text::number(list, of.next);
-    let flip = text::number(list, axis.next);
-    match on
-        .face
-        .tex_coords(given::axis(axis.value), flip.value != 0, of.quad)
-    {
-        TexCoordsAnswer::TexCoords(t) => {
-            show::floats(rt, t.minu_minv.u, t.minu_minv.v, t.maxu_minv.u)?;
-            show::floats(rt, t.maxu_minv.v, t.minu_maxv.u, t.minu_maxv.v)?;
-            show::float(rt, t.maxu_maxv.u)?;
-            show::float(rt, t.maxu_maxv.v)
-        }
-        TexCoordsAnswer::Refused(n) => show::number(rt, n),
-    }
+pub fn textures<W: Write>(out: &mut W, given: &mut Given<'_>) -> io::Result<()> {
+    let face = given.face(out)?;
+    let quad = given::quad(given);
+    let axis = given.axis();
+    let flip = given.number() != 0;
+    show::came(out, face.tex_coords(axis, flip, quad), pairs)
 }

@@ -1,111 +1,21 @@
-// What a call is given: what the numbers of a list stand for.
-use crate::{show, text};
-use geometry::axis::{Axis, AxisPermutation, PermutationAnswer};
-use geometry::face::OrientedBlockFace;
+// What only the calls of the drawing code are given.
+pub use calls::given::Given;
 use geometry::quad::UnorientedQuad;
-use geometry::vector::UVec3;
-use std::io;
+use std::num;
 
-// A face, and where the list goes on.
-#[derive(Clone, Copy)]
-pub struct FaceGiven {
-    pub face: OrientedBlockFace,
-    pub next: usize,
-}
-
-// A point, and where the list goes on.
-#[derive(Clone, Copy)]
-pub struct PointGiven {
-    pub point: UVec3,
-    pub next: usize,
-}
-
-// A quad, and where the list goes on.
-#[derive(Clone, Copy)]
-pub struct QuadGiven {
-    pub quad: UnorientedQuad,
-    pub next: usize,
-}
-
-// A signed number.
-pub fn signed(n: u32) -> i32 {
-    if n < 2147483648 {
-        return n as i32;
-    }
-    let rest = (4294967295 - n) as i32;
-    !rest
-}
-
-// The f32 number of some bits. A NaN is one value here, whatever its bits.
-pub fn float(bits: u32) -> f32 {
-    let magnitude = bits % 2147483648;
-    if magnitude > 2139095040 {
-        return 0.0 / 0.0;
-    }
-    f32::from_bits(bits)
-}
-
-// An axis by its index.
-pub fn axis(index: u32) -> Axis {
-    match index {
-        0 => Axis::X,
-        1 => Axis::Y,
-        _ => Axis::Z,
-    }
-}
-
-// A permutation by its number. A question mark is printed where there is none.
-fn permutation(rt: &impl Print, number: u32) -> io::Result<AxisPermutation> {
-    match AxisPermutation::from_number(number) {
-        PermutationAnswer::Permutation(p) => Ok(p),
-        PermutationAnswer::Refused(_) => {
-            show::byte(rt, b'?')?;
-            Ok(AxisPermutation::Xyz)
-        }
-    }
-}
-
-// A face: its sign and its permutation's number.
-pub fn face(rt: &impl Print, list: &[u8], at: usize) -> io::Result<FaceGiven> {
-    let sign = text::number(list, at);
-    let order = text::number(list, sign.next);
-    let face = OrientedBlockFace {
-        n_sign: signed(sign.value),
-        permutation: permutation(rt, order.value)?,
-    };
-    Ok(FaceGiven {
-        face,
-        next: order.next,
-    })
-}
-
-// A point: its three numbers.
-pub fn point(list: &[u8], at: usize) -> PointGiven {
-    let x = text::number(list, at);
-    let y = text::number(list, x.next);
-    let z = text::number(list, y.next);
-    PointGiven {
-        point: UVec3 {
-            x: x.value,
-            y: y.value,
-            z: z.value,
-        },
-        next: z.next,
-    }
+// An f32 number, by its bits. A NaN is one value here, whatever its bits.
+pub fn float(given: &mut Given<'_>) -> f32 {
+    num::f32_from_bits_with_nan(given.number())
 }
 
 // A quad: its minimum, width and height.
-pub fn quad(list: &[u8], at: usize) -> QuadGiven {
-    let p = point(list, at);
-    let minimum = p.point;
-    let width = text::number(list, p.next);
-    let height = text::number(list, width.next);
-    QuadGiven {
-        quad: UnorientedQuad {
-            minimum,
-            width: width.value,
-            height: height.value,
-        },
-        next: height.next,
+pub fn quad(given: &mut Given<'_>) -> UnorientedQuad {
+    let minimum = given.point();
+    let width = given.number();
+    let height = given.number();
+    UnorientedQuad {
+        minimum,
+        width,
+        height,
     }
 }

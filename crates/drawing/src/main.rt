@@ -8,42 +8,14 @@ mod axes;
 mod call;
 mod draw;
 mod given;
-mod input;
 mod show;
-mod text;
 
+use call::Drawing;
+use calls::given::Notation;
 use std::io;
 
-// Prints the line that starts at a place and, where it is a call and no comment, makes it. Answers where
-// the next line starts.
-fn line(rt: &impl Print, list: &[u8], at: usize) -> io::Result<usize> {
-    let end = text::find(list, at, b'\n');
-    text::put_part(rt, list, at, end)?;
-    if text::byte(list, at) != b'#' {
-        show::byte(rt, b' ')?;
-        show::byte(rt, b'=')?;
-        call::make(rt, list, at)?;
-    }
-    show::byte(rt, b'\n')?;
-    Ok(text::next(end))
-}
-
-// Takes all lines of the list, which are no more than its bytes.
-fn run(rt: &impl Print, list: &[u8]) -> io::Result<()> {
-    let mut at: usize = 0;
-    let mut k: usize = 0;
-    while k < list.len() {
-        if at < list.len() {
-            at = line(rt, list, at)?;
-        }
-        k += 1;
-    }
-    Ok(())
-}
-
 fn main(rt: HostRuntime) -> io::Result<()> {
-    let mut room = input::room();
-    let list: &mut [u8] = &mut room;
-    let got = input::read_full(&mut rt.reader(), list)?;
-    run(&rt, &list[..got])
+    let mut room = [0; calls::LONGEST];
+    let list = calls::read(&mut rt.reader(), &mut room)?;
+    calls::run(&mut io::writer(&rt), list, Notation::Hexadecimal, &Drawing)
 }

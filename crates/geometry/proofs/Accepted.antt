@@ -8,14 +8,12 @@ use Rattle.geometry.specs.declared.quad.UnorientedQuad.{UnorientedQuad}
 use Rattle.geometry.specs.declared.face.OrientedBlockFace.{OrientedBlockFace}
 use Rattle.geometry.specs.declared.face.Corner.{Corner}
 use Rattle.geometry.specs.declared.face.Corner.TheVariants.{MinuMinv, MaxuMinv, MinuMaxv, MaxuMaxv}
-use Rattle.geometry.specs.declared.face.QuadCorners.{QuadCorners}
 use Rattle.geometry.specs.declared.face.Position.{Position}
-use Rattle.geometry.specs.declared.face.QuadPositions.{QuadPositions}
 use Rattle.geometry.specs.Refusal.{accepted, checked}
 use Rattle.geometry.specs.Point.{along}
 use Rattle.geometry.specs.Quad.{largest_axis}
 use Rattle.geometry.specs.Checks.{bad_sign, bad_quad, bad_size, quad_checks, position_checks, not_finite}
-use Rattle.geometry.specs.Corners.{corner, quad_corners, position, quad_positions, quad_position}
+use Rattle.geometry.specs.Corners.{QuadCorners, QuadPositions, corner, quad_corners, position, quad_positions, quad_position}
 use Rattle.geometry.specs.Inner.{AtMost}
 use Rattle.geometry.specs.Statements.{NoNan}
 use Rattle.geometry.proofs.Refusals.{first_passes, rest_accepts, accepts_value, accepts_checked}

@@ -1,12 +1,14 @@
 -- Laws of faces: the normal on each axis, and when a texture's u is flipped.
 use mathlib.Core.Bool.{true, false, not, or-false}
 use mathlib.Core.Path.{◌≡◌, refl, ◌∙◌, ap}
+use denote.Enum.Bare.{sameb}
 use lib.IntN
 use lib.IntN.{ℤ, pos, ◌*ℤ◌, *ℤ-one, *ℤ-zero}
 use Rattle.geometry.specs.declared.vector.IVec3.{IVec3}
 use Rattle.geometry.specs.declared.axis.Axis.{Axis}
 use Rattle.geometry.specs.declared.axis.Axis.TheVariants.{X, Y, Z}
 use Rattle.geometry.specs.declared.face.OrientedBlockFace.{OrientedBlockFace}
+use Rattle.geometry.specs.contracts.axis.Axis.{the_type}
 use Rattle.geometry.specs.Point.{unit_vector, same_axis}
 use Rattle.geometry.specs.Axes.{positive, negative, times, n_axis}
 use Rattle.geometry.specs.Checks.{proper_sign}
@@ -33,6 +35,18 @@ pub normal_on : (f : OrientedBlockFace) (a : Axis) → n_axis f ≡ a → normal
 normal_on f a e = ap (λ (b : Axis). times f.n_sign (unit_vector b)) e ∙ times_unit f.n_sign a
 
 -- ---- flips
+
+-- Axes are the same where the derived `==` says so.
+pub axis_same : (a b : Axis) → sameb the_type a b ≡ same_axis a b
+axis_same X X = refl
+axis_same X Y = refl
+axis_same X Z = refl
+axis_same Y X = refl
+axis_same Y Y = refl
+axis_same Y Z = refl
+axis_same Z X = refl
+axis_same Z Y = refl
+axis_same Z Z = refl
 
 negative_only : (s : ℤ) → proper_sign s ≡ true → negative s ≡ true → positive s ≡ false
 negative_only = proper_elim _ (λ h. cc) (λ h. refl)

@@ -1,5 +1,5 @@
 -- Laws of the floats that geometry makes: which sizes are finite, and that a coordinate is a float exactly.
-use mathlib.Core.Bool.{Bool, true, false, cond}
+use mathlib.Core.Bool.{Bool, true, false, not, cond}
 use mathlib.Core.Path.{◌≡◌, refl, sym}
 use Prim.Native.Nat.{ℕ, zero, suc, ◌+◌, ◌*◌, ◌^◌, ◌≤◌, ◌<◌}
 use native.Mathlib.Nat.{mul-one, lt_of_lt_of_le}
@@ -7,13 +7,14 @@ use native.Mathlib.Omega.{arith}
 use lib.Dec.{T, ltb, le→leb, lit<, lit≤}
 use lib.Pow.{shl_lt}
 use lib.IntN.{ℤ, pos, ◌*ℤ◌}
-use lib.Ieee.{Float, nan, inf, fin, Format, binary32, prec, emax, low, up, down, unlike, lt, in_float, of_int, is_nan, odd, units, round, mul}
+use lib.Ieee.{Float, nan, inf, fin, Format, binary32, prec, emax, low, up, down, unlike, in_float, of_int, is_nan, odd, units, round, mul}
 use lib.Ieee.Fits.{round_is}
 use lib.Ieee.Exact.{HasValue, round_exact}
 use mir.Syntax.{w32}
 use mir.Val.{to_z, of_z}
 use Rattle.geometry.specs.declared.axis.Axis.{Axis}
 use Rattle.geometry.specs.declared.axis.Axis.TheVariants.{X, Y, Z}
+use Rattle.std.specs.Float.{float_is_finite}
 use Rattle.geometry.specs.Point.{unit_vector}
 use Rattle.geometry.specs.Quad.{largest_axis}
 use Rattle.geometry.specs.Checks.{not_finite, proper_sign}
@@ -22,26 +23,12 @@ use Rattle.geometry.specs.Face.{as_f32}
 use Rattle.geometry.specs.Corners.{product}
 use Rattle.geometry.proofs.Signs.{proper_elim}
 
--- A float is finite where it lies between the infinities,
-pub size_finite : (x : Float) → lt x (inf false) ≡ true → lt (inf true) x ≡ true → not_finite x ≡ false
-unfolding lt not_finite
-size_finite nan h l = cc
-size_finite (inf true) h l = cc
-size_finite (inf false) h l = cc
-size_finite (fin s m e) h l = refl
-
--- and not where one of the tests fails.
-pub size_high : (x : Float) → lt x (inf false) ≡ false → not_finite x ≡ true
-unfolding lt not_finite
-size_high nan h = refl
-size_high (inf s) h = refl
-size_high (fin s m e) h = cc
-
-pub size_low : (x : Float) → lt (inf true) x ≡ false → not_finite x ≡ true
-unfolding lt not_finite
-size_low nan h = refl
-size_low (inf s) h = refl
-size_low (fin s m e) h = cc
+-- A float is finite where the library says so.
+pub finite : (x : Float) → not_finite x ≡ not (float_is_finite x)
+unfolding not_finite float_is_finite
+finite nan = refl
+finite (inf s) = refl
+finite (fin s m e) = refl
 
 -- ---- what is cast
 

@@ -1,79 +1,34 @@
--- What each answer means: for each enum that a call gives, document 01's value, number and place for each of its cases. A check's answer says the place, for the checks
--- of every crate; the others leave it out, since every refusal of this crate has place 0.
+-- What an answer means. A call that can refuse answers a `Result`: its value, or a refusal, which has a reason and a place. Every promise of such a call goes through `meaning`, which gives document 01's
+-- answer: the value, or the number and the place.
+use Rattle.std.specs.Prelude.{ℕ, Result}
+use Rattle.std.specs.declared.result.Result.TheVariants.{Ok, Err}
 use Rattle.geometry.specs.Refusal.{Answer, accepted, refused}
-use Rattle.geometry.specs.declared.vector.IVec3.{IVec3}
-use Rattle.geometry.specs.declared.axis.AxisPermutation.{AxisPermutation}
-use Rattle.geometry.specs.declared.axis.SignedAxis.{SignedAxis}
-use Rattle.geometry.specs.declared.face.OrientedBlockFace.{OrientedBlockFace}
-use Rattle.geometry.specs.declared.face.Position.{Position}
-use Rattle.geometry.specs.declared.face.QuadCorners.{QuadCorners}
-use Rattle.geometry.specs.declared.face.QuadPositions.{QuadPositions}
-use Rattle.geometry.specs.declared.face.QuadNormals.{QuadNormals}
-use Rattle.geometry.specs.declared.face.QuadIndices.{QuadIndices}
-use Rattle.geometry.specs.declared.face.QuadTexCoords.{QuadTexCoords}
-use Rattle.geometry.specs.declared.refusal.CheckAnswer
-use Rattle.geometry.specs.declared.axis.SignedAxisAnswer
-use Rattle.geometry.specs.declared.axis.PermutationAnswer
-use Rattle.geometry.specs.declared.face.FaceAnswer
-use Rattle.geometry.specs.declared.face.SignedNormalAnswer
-use Rattle.geometry.specs.declared.face.CornersAnswer
-use Rattle.geometry.specs.declared.face.PositionsAnswer
-use Rattle.geometry.specs.declared.face.NormalsAnswer
-use Rattle.geometry.specs.declared.face.IndicesAnswer
-use Rattle.geometry.specs.declared.face.TexCoordsAnswer
-use Rattle.geometry.specs.declared.face.PositionAnswer
+use Rattle.geometry.specs.declared.refusal.Refusal.{Refusal}
+use Rattle.geometry.specs.declared.refusal.Reason.{Reason}
+use Rattle.geometry.specs.declared.refusal.Reason.TheVariants.{Shape, FewVoxels, MinAboveMax, MaxPastShape, MinIsMax, FaceSign, FewVisited, BadVoxel, ManyQuads, NoDirection, ManyDirections, QuadLimits, ManyVertices, VoxelSize, ShortOutput, File, NoSuchNumber, Counts}
 
--- A check that passed has nothing more to say.
-abbrev pub check_meaning : CheckAnswer.CheckAnswer → Answer (Unit {0})
-check_meaning CheckAnswer.TheVariants.Passed = accepted tt
-check_meaning (CheckAnswer.TheVariants.Refused n p) = refused n p
+-- A reason's number: document 01, 'Refusal numbers'; of 15, 16 and 24 document 02, first and second request; 17 is ours (docs/DECISIONS.md).
+abbrev pub number : Reason → ℕ
+number Shape = 1
+number FewVoxels = 2
+number MinAboveMax = 3
+number MaxPastShape = 4
+number MinIsMax = 5
+number FaceSign = 6
+number FewVisited = 7
+number BadVoxel = 8
+number ManyQuads = 9
+number NoDirection = 10
+number ManyDirections = 11
+number QuadLimits = 12
+number ManyVertices = 13
+number VoxelSize = 14
+number ShortOutput = 15
+number File = 16
+number NoSuchNumber = 17
+number Counts = 24
 
--- A signed axis.
-abbrev pub signed_axis_meaning : SignedAxisAnswer.SignedAxisAnswer → Answer SignedAxis
-signed_axis_meaning (SignedAxisAnswer.TheVariants.Made a) = accepted a
-signed_axis_meaning (SignedAxisAnswer.TheVariants.Refused n) = refused n 0
-
--- A permutation.
-abbrev pub permutation_meaning : PermutationAnswer.PermutationAnswer → Answer AxisPermutation
-permutation_meaning (PermutationAnswer.TheVariants.Permutation a) = accepted a
-permutation_meaning (PermutationAnswer.TheVariants.Refused n) = refused n 0
-
--- A face.
-abbrev pub face_meaning : FaceAnswer.FaceAnswer → Answer OrientedBlockFace
-face_meaning (FaceAnswer.TheVariants.Face a) = accepted a
-face_meaning (FaceAnswer.TheVariants.Refused n) = refused n 0
-
--- A signed normal in integers.
-abbrev pub signed_normal_meaning : SignedNormalAnswer.SignedNormalAnswer → Answer IVec3
-signed_normal_meaning (SignedNormalAnswer.TheVariants.SignedNormal a) = accepted a
-signed_normal_meaning (SignedNormalAnswer.TheVariants.Refused n) = refused n 0
-
--- Four corners.
-abbrev pub corners_meaning : CornersAnswer.CornersAnswer → Answer QuadCorners
-corners_meaning (CornersAnswer.TheVariants.Corners a) = accepted a
-corners_meaning (CornersAnswer.TheVariants.Refused n) = refused n 0
-
--- Four positions.
-abbrev pub positions_meaning : PositionsAnswer.PositionsAnswer → Answer QuadPositions
-positions_meaning (PositionsAnswer.TheVariants.Positions a) = accepted a
-positions_meaning (PositionsAnswer.TheVariants.Refused n) = refused n 0
-
--- Four normals in f32.
-abbrev pub normals_meaning : NormalsAnswer.NormalsAnswer → Answer QuadNormals
-normals_meaning (NormalsAnswer.TheVariants.Normals a) = accepted a
-normals_meaning (NormalsAnswer.TheVariants.Refused n) = refused n 0
-
--- Six vertex numbers.
-abbrev pub indices_meaning : IndicesAnswer.IndicesAnswer → Answer QuadIndices
-indices_meaning (IndicesAnswer.TheVariants.Indices a) = accepted a
-indices_meaning (IndicesAnswer.TheVariants.Refused n) = refused n 0
-
--- Four texture pairs.
-abbrev pub tex_coords_meaning : TexCoordsAnswer.TexCoordsAnswer → Answer QuadTexCoords
-tex_coords_meaning (TexCoordsAnswer.TheVariants.TexCoords a) = accepted a
-tex_coords_meaning (TexCoordsAnswer.TheVariants.Refused n) = refused n 0
-
--- One corner's position: "three f32 numbers come back, or a refusal number".
-abbrev pub position_meaning : PositionAnswer.PositionAnswer → Answer Position
-position_meaning (PositionAnswer.TheVariants.Position x y z) = accepted (record { x = x; y = y; z = z })
-position_meaning (PositionAnswer.TheVariants.Refused n) = refused n 0
+-- The value, or the refusal's number and place. A check that passed has nothing more to say: its value is `tt`.
+abbrev pub meaning : {A : Type 0} → Result A Refusal → Answer A
+meaning (Ok a) = accepted a
+meaning (Err r) = refused (number r.reason) r.place

@@ -6,9 +6,8 @@ use Rattle.geometry.specs.declared.quad.UnorientedQuad.{UnorientedQuad}
 use Rattle.geometry.specs.declared.face.OrientedBlockFace.{OrientedBlockFace}
 use Rattle.geometry.specs.declared.face.Corner.{Corner}
 use Rattle.geometry.specs.declared.face.Corner.TheVariants.{MinuMinv, MaxuMinv, MinuMaxv, MaxuMaxv}
-use Rattle.geometry.specs.declared.face.QuadCorners.{QuadCorners}
+use Rattle.geometry.specs.declared.face.PerCorner.{PerCorner}
 use Rattle.geometry.specs.declared.face.Position.{Position}
-use Rattle.geometry.specs.declared.face.QuadPositions.{QuadPositions}
 use Rattle.geometry.specs.Point.{Point, moved}
 use Rattle.geometry.specs.Axes.{positive, bit, n_axis, u_axis, v_axis}
 use Rattle.geometry.specs.Checks.{quad_checks, position_checks}
@@ -27,6 +26,10 @@ corner f q MinuMinv = base f q
 corner f q MaxuMinv = moved (u_axis f) q.width (base f q)
 corner f q MinuMaxv = moved (v_axis f) q.height (base f q)
 corner f q MaxuMaxv = moved (v_axis f) q.height (moved (u_axis f) q.width (base f q))
+
+-- The corners of a quad, by name.
+abbrev pub QuadCorners : Type 0
+QuadCorners = PerCorner Point
 
 -- The four corners of a quad (face.rs 79).
 abbrev pub corners : OrientedBlockFace → UnorientedQuad → QuadCorners
@@ -53,6 +56,10 @@ product size c = mul binary32 size (as_f32 (pos c))
 -- A point's position: one product for each coordinate (face.rs 85).
 abbrev pub position : Float → Point → Position
 position size p = record { x = product size p.x; y = product size p.y; z = product size p.z }
+
+-- The positions of a quad's corners, by the corner's name.
+abbrev pub QuadPositions : Type 0
+QuadPositions = PerCorner Position
 
 -- The positions of the four corners (face.rs 84 and 85).
 abbrev pub positions : OrientedBlockFace → UnorientedQuad → Float → QuadPositions

@@ -7,7 +7,7 @@ use Rattle.geometry.specs.declared.axis.AxisPermutation.{AxisPermutation}
 use Rattle.geometry.specs.declared.axis.SignedAxis.{SignedAxis}
 use Rattle.geometry.specs.declared.face.OrientedBlockFace.{OrientedBlockFace}
 use Rattle.geometry.specs.declared.face.Normal.{Normal}
-use Rattle.geometry.specs.declared.face.QuadNormals.{QuadNormals}
+use Rattle.geometry.specs.declared.face.PerCorner.{PerCorner}
 use Rattle.geometry.specs.Point.{unit_vector}
 use Rattle.geometry.specs.Axes.{even_with_normal_axis, unsigned_axis, signum, times, n_axis}
 use Rattle.geometry.specs.Checks.{face_checks}
@@ -43,6 +43,10 @@ as_f32 = of_int binary32
 -- "As f32 its zeros are plus zero": the f32 of 0 is plus zero (proofs/Floats.antt, `plus_zero`).
 abbrev pub normal_as_f32 : IVec3 → Normal
 normal_as_f32 v = record { x = as_f32 v.x; y = as_f32 v.y; z = as_f32 v.z }
+
+-- The normals at a quad's corners, by the corner's name.
+abbrev pub QuadNormals : Type 0
+QuadNormals = PerCorner Normal
 
 -- One normal at each of the four corners (face.rs 89 to 91).
 abbrev pub four_normals : Normal → QuadNormals

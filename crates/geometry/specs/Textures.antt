@@ -4,7 +4,7 @@ use Rattle.geometry.specs.declared.axis.Axis.{Axis}
 use Rattle.geometry.specs.declared.quad.UnorientedQuad.{UnorientedQuad}
 use Rattle.geometry.specs.declared.face.OrientedBlockFace.{OrientedBlockFace}
 use Rattle.geometry.specs.declared.face.TexCoord.{TexCoord}
-use Rattle.geometry.specs.declared.face.QuadTexCoords.{QuadTexCoords}
+use Rattle.geometry.specs.declared.face.PerCorner.{PerCorner}
 use Rattle.geometry.specs.Point.{same_axis}
 use Rattle.geometry.specs.Axes.{positive, negative, n_axis}
 use Rattle.geometry.specs.Checks.{quad_checks}
@@ -25,6 +25,10 @@ side_end true side = side
 -- A texture pair as f32 numbers (face.rs 134 to 157, `as f32`).
 abbrev pub pair : ℕ → ℕ → TexCoord
 pair a b = record { u = as_f32 (pos a); v = as_f32 (pos b) }
+
+-- The texture pairs of a quad's corners, by the corner's name.
+abbrev pub QuadTexCoords : Type 0
+QuadTexCoords = PerCorner TexCoord
 
 -- "no flip: (0,0), (w,0), (0,h), (w,h). Flip u swaps 0 and w; flip v swaps 0 and h." (face.rs 133 to 158).
 abbrev pub pairs : Bool → Bool → ℕ → ℕ → QuadTexCoords

@@ -2,13 +2,13 @@
 ghost use Rattle.std.specs.Prelude.{◌≡◌};
 ghost use Rattle.geometry.specs.Axes.{even_with_normal_axis, odd_with_normal_axis, permutation_sign, axes_of, permutation_number, permutation_of, signum, unsigned_axis, signed_unit, toward, signed_axis_of_sign, signed_axis_of_vector};
 ghost use Rattle.geometry.specs.Point.{axis_number, unit_vector, along};
-ghost use Rattle.geometry.specs.Answers.{signed_axis_meaning, permutation_meaning};
+ghost use Rattle.geometry.specs.Answers.{meaning};
 
-use crate::refusal;
+use crate::refusal::{Reason, Refusal};
 use crate::vector::{IVec3, UVec3};
 
 // One of the three axes.
-#[derive(Clone, Copy)]
+#[derive(Clone, Copy, PartialEq, Eq)]
 pub enum Axis {
     X,
     Y,
@@ -20,11 +20,7 @@ impl Axis {
     pub fn index(self) -> usize
         ensures { result ≡ axis_number self }
     {
-        match self {
-            Axis::X => 0,
-            Axis::Y => 1,
-            Axis::Z => 2,
-        }
+        self as usize
     }
 
     // One step along this axis.
@@ -69,13 +65,6 @@ pub struct Axes {
     pub n: Axis,
     pub u: Axis,
     pub v: Axis,
-}
-
-// The permutation of a number, or the refusal number.
-#[derive(Clone, Copy)]
-pub enum PermutationAnswer {
-    Permutation(AxisPermutation),
-    Refused(u32),
 }
 
 impl AxisPermutation {
@@ -152,33 +141,32 @@ impl AxisPermutation {
             },
         }
     }
+}
 
-    // The permutation's number, 0 to 5, in the order of the cases.
-    pub fn number(self) -> u32
-        ensures { result ≡ permutation_number self }
-    {
-        match self {
-            AxisPermutation::Xyz => 0,
-            AxisPermutation::Zxy => 1,
-            AxisPermutation::Yzx => 2,
-            AxisPermutation::Zyx => 3,
-            AxisPermutation::Xzy => 4,
-            AxisPermutation::Yxz => 5,
-        }
+// The permutation's number, 0 to 5, in the order of the cases.
+impl From<AxisPermutation> for u32 {
+    ghost from_gives = { λ permutation number. number ≡ permutation_number permutation };
+
+    fn from(permutation: AxisPermutation) -> u32 {
+        permutation as u32
     }
+}
 
-    // The permutation that has a number. Refuses any number but 0 to 5, by 17.
-    pub fn from_number(number: u32) -> PermutationAnswer
-        ensures { permutation_meaning result ≡ permutation_of number }
-    {
+// The permutation that has a number. Refuses any number but 0 to 5, by 17.
+impl TryFrom<u32> for AxisPermutation {
+    type Error = Refusal;
+
+    ghost try_from_gives = { λ number answer. meaning answer ≡ permutation_of number };
+
+    fn try_from(number: u32) -> Result<AxisPermutation, Refusal> {
         match number {
-            0 => PermutationAnswer::Permutation(AxisPermutation::Xyz),
-            1 => PermutationAnswer::Permutation(AxisPermutation::Zxy),
-            2 => PermutationAnswer::Permutation(AxisPermutation::Yzx),
-            3 => PermutationAnswer::Permutation(AxisPermutation::Zyx),
-            4 => PermutationAnswer::Permutation(AxisPermutation::Xzy),
-            5 => PermutationAnswer::Permutation(AxisPermutation::Yxz),
-            _ => PermutationAnswer::Refused(refusal::NO_SUCH_NUMBER),
+            0 => Ok(AxisPermutation::Xyz),
+            1 => Ok(AxisPermutation::Zxy),
+            2 => Ok(AxisPermutation::Yzx),
+            3 => Ok(AxisPermutation::Zyx),
+            4 => Ok(AxisPermutation::Xzy),
+            5 => Ok(AxisPermutation::Yxz),
+            _ => Err(Reason::NoSuchNumber.at(0)),
         }
     }
 }
@@ -194,22 +182,15 @@ pub enum SignedAxis {
     PosZ,
 }
 
-// The signed axis that was made, or the refusal number.
-#[derive(Clone, Copy)]
-pub enum SignedAxisAnswer {
-    Made(SignedAxis),
-    Refused(u32),
-}
-
 impl SignedAxis {
     // The axis toward the side that a sign tells. Refuses sign 0; any other sign is taken.
-    pub fn new(sign: i32, axis: Axis) -> SignedAxisAnswer
-        ensures { signed_axis_meaning result ≡ signed_axis_of_sign sign axis }
+    pub fn new(sign: i32, axis: Axis) -> Result<SignedAxis, Refusal>
+        ensures { meaning result ≡ signed_axis_of_sign sign axis }
     {
         if sign == 0 {
-            return SignedAxisAnswer::Refused(refusal::NO_DIRECTION);
+            return Err(Reason::NoDirection.at(0));
         }
-        SignedAxisAnswer::Made(SignedAxis::toward(sign > 0, axis))
+        Ok(SignedAxis::toward(sign > 0, axis))
     }
 
     // The positive or the negative side of an axis.
@@ -275,26 +256,14 @@ impl SignedAxis {
 
     // The axis along which a vector lies, toward the side of its one nonzero part. Refuses the zero
     // vector, and one with two or more nonzero parts.
-    pub fn from_vector(v: IVec3) -> SignedAxisAnswer
-        ensures { signed_axis_meaning result ≡ signed_axis_of_vector v }
+    pub fn from_vector(v: IVec3) -> Result<SignedAxis, Refusal>
+        ensures { meaning result ≡ signed_axis_of_vector v }
     {
-        let x = v.x;
-        let y = v.y;
-        let z = v.z;
-        if y == 0 {
-            if z == 0 {
-                return SignedAxis::new(x, Axis::X);
-            }
-            if x == 0 {
-                return SignedAxis::new(z, Axis::Z);
-            }
-            return SignedAxisAnswer::Refused(refusal::MANY_DIRECTIONS);
+        match (v.x, v.y, v.z) {
+            (x, 0, 0) => SignedAxis::new(x, Axis::X),
+            (0, y, 0) => SignedAxis::new(y, Axis::Y),
+            (0, 0, z) => SignedAxis::new(z, Axis::Z),
+            _ => Err(Reason::ManyDirections.at(0)),
         }
-        if x == 0 {
-            if z == 0 {
-                return SignedAxis::new(y, Axis::Y);
-            }
-        }
-        SignedAxisAnswer::Refused(refusal::MANY_DIRECTIONS)
     }
 }

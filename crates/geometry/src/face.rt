@@ -8,26 +8,26 @@ ghost use Rattle.std.specs.Prelude.{◌≡◌, true, [], ◌∷◌, ◌+◌, ◌
 ghost use Rattle.geometry.specs.Refusal.{checked};
 ghost use Rattle.geometry.specs.Point.{along, moved};
 ghost use Rattle.geometry.specs.Axes.{positive, permutation_sign};
-ghost use Rattle.geometry.specs.Quad.{largest_axis, minimum_within_limits, side_within_limits};
+ghost use Rattle.geometry.specs.Quad.{largest_axis};
 ghost use Rattle.geometry.specs.Checks.{proper_sign, bad_quad, bad_start, bad_size, last_start, face_checks, quad_checks, index_checks, position_checks};
 ghost use Rattle.geometry.specs.Face.{new_face, canonical_face, normal, signed_normal, as_f32, normal_as_f32, quad_normals};
 ghost use Rattle.geometry.specs.Corners.{base, corner, corners, quad_corners, position, positions, quad_positions, quad_position};
 ghost use Rattle.geometry.specs.Vertices.{indices, quad_indices};
 ghost use Rattle.geometry.specs.Textures.{flips_u, side_end, pairs, quad_textures};
-ghost use Rattle.geometry.specs.Answers.{check_meaning, face_meaning, signed_normal_meaning, corners_meaning, positions_meaning, position_meaning, normals_meaning, indices_meaning, tex_coords_meaning};
+ghost use Rattle.geometry.specs.Answers.{meaning};
 ghost use Rattle.geometry.specs.Inner.{WithinBounds};
 
 use crate::axis::{Axis, AxisPermutation, SignedAxis};
+use crate::placed::PlacedQuad;
 use crate::quad::UnorientedQuad;
-use crate::refusal::{CheckAnswer, first_refusal};
+use crate::refusal::{Reason, Refusal, first_refusal};
 use crate::vector::{IVec3, UVec3};
-use crate::{LARGEST_AXIS, refusal};
 
 // One of the six cube faces, with the order of its axes.
 #[derive(Clone, Copy)]
 pub struct OrientedBlockFace {
     // The side of n that the face looks to: 1 or -1. What is drawn of a face with another sign is
-    // refused.
+    // refused: a number and no enum, since any may be handed in (face_checks).
     pub n_sign: i32,
     // Which axes are n, u and v.
     pub permutation: AxisPermutation,
@@ -50,14 +50,26 @@ pub enum Corner {
     MaxuMaxv,
 }
 
-// The corners of a quad.
+// What each of a quad's four corners has.
 #[derive(Clone, Copy)]
-pub struct QuadCorners {
-    pub minu_minv: UVec3,
-    pub maxu_minv: UVec3,
-    pub minu_maxv: UVec3,
-    pub maxu_maxv: UVec3,
+pub struct PerCorner<T> {
+    pub minu_minv: T,
+    pub maxu_minv: T,
+    pub minu_maxv: T,
+    pub maxu_maxv: T,
 }
+
+// The corners of a quad.
+pub type QuadCorners = PerCorner<UVec3>;
+
+// The positions of a quad's corners.
+pub type QuadPositions = PerCorner<Position>;
+
+// The normals at a quad's corners.
+pub type QuadNormals = PerCorner<Normal>;
+
+// The texture pairs of a quad's corners.
+pub type QuadTexCoords = PerCorner<TexCoord>;
 
 // Where a vertex is drawn.
 #[derive(Clone, Copy)]
@@ -67,16 +79,7 @@ pub struct Position {
     pub z: f32,
 }
 
-// The positions of a quad's corners.
-#[derive(Clone, Copy)]
-pub struct QuadPositions {
-    pub minu_minv: Position,
-    pub maxu_minv: Position,
-    pub minu_maxv: Position,
-    pub maxu_maxv: Position,
-}
-
-// The direction that a vertex faces.
+// The direction that a vertex faces. A type of its own, so that neither is taken for the other.
 #[derive(Clone, Copy)]
 pub struct Normal {
     pub x: f32,
@@ -84,29 +87,11 @@ pub struct Normal {
     pub z: f32,
 }
 
-// The normals at a quad's corners.
-#[derive(Clone, Copy)]
-pub struct QuadNormals {
-    pub minu_minv: Normal,
-    pub maxu_minv: Normal,
-    pub minu_maxv: Normal,
-    pub maxu_maxv: Normal,
-}
-
 // A texture pair.
 #[derive(Clone, Copy)]
 pub struct TexCoord {
     pub u: f32,
     pub v: f32,
-}
-
-// The texture pairs of a quad's corners.
-#[derive(Clone, Copy)]
-pub struct QuadTexCoords {
-    pub minu_minv: TexCoord,
-    pub maxu_minv: TexCoord,
-    pub minu_maxv: TexCoord,
-    pub maxu_maxv: TexCoord,
 }
 
 // The vertex numbers of a quad's two triangles.
@@ -120,78 +105,20 @@ pub struct QuadIndices(
     pub VertexIndex,
 );
 
-// The face that was made, or the refusal number.
-#[derive(Clone, Copy)]
-pub enum FaceAnswer {
-    Face(OrientedBlockFace),
-    Refused(u32),
-}
-
-// The signed normal, or the refusal number.
-#[derive(Clone, Copy)]
-pub enum SignedNormalAnswer {
-    SignedNormal(IVec3),
-    Refused(u32),
-}
-
-// The corners, or the refusal number.
-#[derive(Clone, Copy)]
-pub enum CornersAnswer {
-    Corners(QuadCorners),
-    Refused(u32),
-}
-
-// The positions, or the refusal number.
-#[derive(Clone, Copy)]
-pub enum PositionsAnswer {
-    Positions(QuadPositions),
-    Refused(u32),
-}
-
-// The three numbers of one corner's position, or the refusal number.
-#[derive(Clone, Copy)]
-pub enum PositionAnswer {
-    Position(f32, f32, f32),
-    Refused(u32),
-}
-
-// The normals, or the refusal number.
-#[derive(Clone, Copy)]
-pub enum NormalsAnswer {
-    Normals(QuadNormals),
-    Refused(u32),
-}
-
-// The vertex numbers, or the refusal number.
-#[derive(Clone, Copy)]
-pub enum IndicesAnswer {
-    Indices(QuadIndices),
-    Refused(u32),
-}
-
-// The texture pairs, or the refusal number.
-#[derive(Clone, Copy)]
-pub enum TexCoordsAnswer {
-    TexCoords(QuadTexCoords),
-    Refused(u32),
-}
-
 // The largest first index: three more still fit.
 const LAST_START: u32 = 4294967292;
 
 impl OrientedBlockFace {
     // The face of a sign and a permutation. Refuses a sign that is neither 1 nor -1.
-    pub fn new(n_sign: i32, permutation: AxisPermutation) -> FaceAnswer
-        ensures { face_meaning result ≡ new_face n_sign permutation }
+    pub fn new(n_sign: i32, permutation: AxisPermutation) -> Result<OrientedBlockFace, Refusal>
+        ensures { meaning result ≡ new_face n_sign permutation }
     {
         let face = OrientedBlockFace {
-            n_sign: n_sign,
-            permutation: permutation,
+            n_sign,
+            permutation,
         };
-        match face.check_sign() {
-            CheckAnswer::Passed => FaceAnswer::Face(face),
-            CheckAnswer::Refused(number, _) => FaceAnswer::Refused(number),
-        }
+        face.check_sign()?;
+        Ok(face)
     }
 
     // The face toward a signed axis, with the even permutation. Never refuses.
@@ -202,61 +129,55 @@ impl OrientedBlockFace {
         let permutation = AxisPermutation::even_with_normal_axis(normal.unsigned_axis());
         OrientedBlockFace {
             n_sign: sign,
-            permutation: permutation,
+            permutation,
         }
     }
 
     // Check 6: the sign is 1 or -1.
-    pub fn check_sign(self) -> CheckAnswer
-        ensures { check_meaning result ≡ checked (face_checks self) }
+    pub fn check_sign(self) -> Result<(), Refusal>
+        ensures { meaning result ≡ checked (face_checks self) }
     {
         let sign = self.n_sign;
         if sign == 1 {
-            return CheckAnswer::Passed;
+            return Ok(());
         }
         if sign == -1 {
-            return CheckAnswer::Passed;
+            return Ok(());
         }
-        CheckAnswer::Refused(refusal::FACE_SIGN, 0)
+        Err(Reason::FaceSign.at(0))
     }
 
     // Check 12 by itself: the quad is within the limits along this face's u and v, whatever the
     // sign.
-    pub fn check_quad(self, quad: UnorientedQuad) -> CheckAnswer
-        ensures { check_meaning result ≡ checked (bad_quad self quad ∷ []) }
+    pub fn check_quad(self, quad: UnorientedQuad) -> Result<(), Refusal>
+        ensures { meaning result ≡ checked (bad_quad self quad ∷ []) }
     {
-        let permutation = self.permutation;
-        let axes = permutation.axes();
-        let u = axes.u;
-        let v = axes.v;
-        let minimum = quad.minimum;
-        if minimum_within_limits(minimum) {
-            if side_within_limits(u.coordinate(minimum), quad.width) {
-                if side_within_limits(v.coordinate(minimum), quad.height) {
-                    return CheckAnswer::Passed;
-                }
-            }
+        if !quad.within_limits(self.permutation.axes()) {
+            return Err(Reason::QuadLimits.at(0));
         }
-        CheckAnswer::Refused(refusal::QUAD_LIMITS, 0)
+        Ok(())
+    }
+
+    // Whether the face looks to the positive side.
+    pub(crate) fn is_positive(self) -> bool
+        ensures { result ≡ positive self.n_sign }
+    {
+        self.n_sign > 0
     }
 
     // What a call that draws a quad on a face checks first: 6, then 12.
-    fn check_drawing(self, quad: UnorientedQuad) -> CheckAnswer
-        ensures { check_meaning result ≡ checked (quad_checks self quad) }
+    fn check_drawing(self, quad: UnorientedQuad) -> Result<(), Refusal>
+        ensures { meaning result ≡ checked (quad_checks self quad) }
     {
-        let sign = self.check_sign();
-        let limits = self.check_quad(quad);
-        first_refusal(sign, limits)
+        first_refusal(self.check_sign(), self.check_quad(quad))
     }
 
     // The unit vector of n times the sign. Refuses by 6.
-    pub fn signed_normal(self) -> SignedNormalAnswer
-        ensures { signed_normal_meaning result ≡ signed_normal self }
+    pub fn signed_normal(self) -> Result<IVec3, Refusal>
+        ensures { meaning result ≡ signed_normal self }
     {
-        match self.check_sign() {
-            CheckAnswer::Passed => SignedNormalAnswer::SignedNormal(self.normal()),
-            CheckAnswer::Refused(number, _) => SignedNormalAnswer::Refused(number),
-        }
+        self.check_sign()?;
+        Ok(self.normal())
     }
 
     // The unit vector of n times the sign, whatever the sign.
@@ -296,96 +217,24 @@ impl OrientedBlockFace {
     //
     // In right-handed axes n points at the reader where the permutation is even, and away where it
     // is odd. Refuses by 6, then 12.
-    pub fn quad_corners(self, quad: UnorientedQuad) -> CornersAnswer
-        ensures { corners_meaning result ≡ quad_corners self quad }
+    pub fn quad_corners(self, quad: UnorientedQuad) -> Result<QuadCorners, Refusal>
+        ensures { meaning result ≡ quad_corners self quad }
     {
-        match self.check_drawing(quad) {
-            CheckAnswer::Passed => CornersAnswer::Corners(self.corners(quad)),
-            CheckAnswer::Refused(number, _) => CornersAnswer::Refused(number),
-        }
-    }
-
-    // The four corners of a quad within the limits.
-    fn corners(self, quad: UnorientedQuad) -> QuadCorners
-        requires { WithinBounds self quad }
-        ensures { result ≡ corners self quad }
-    {
-        let permutation = self.permutation;
-        let axes = permutation.axes();
-        let u = axes.u;
-        let v = axes.v;
-        let minu_minv = self.base(quad);
-        let maxu_minv = step(minu_minv, u, quad.width);
-        let minu_maxv = step(minu_minv, v, quad.height);
-        let maxu_maxv = step(maxu_minv, v, quad.height);
-        QuadCorners {
-            minu_minv: minu_minv,
-            maxu_minv: maxu_minv,
-            minu_maxv: minu_maxv,
-            maxu_maxv: maxu_maxv,
-        }
-    }
-
-    // The corner that every other is counted from.
-    fn base(self, quad: UnorientedQuad) -> UVec3
-        requires { WithinBounds self quad }
-        ensures { result ≡ base self quad }
-    {
-        let permutation = self.permutation;
-        let axes = permutation.axes();
-        let n = axes.n;
-        let minimum = quad.minimum;
-        if self.n_sign > 0 {
-            step(minimum, n, 1)
-        } else {
-            minimum
-        }
-    }
-
-    // One corner of a quad within the limits.
-    fn corner(self, quad: UnorientedQuad, which: Corner) -> UVec3
-        requires { WithinBounds self quad }
-        ensures { result ≡ corner self quad which }
-    {
-        let permutation = self.permutation;
-        let axes = permutation.axes();
-        let u = axes.u;
-        let v = axes.v;
-        let minu_minv = self.base(quad);
-        match which {
-            Corner::MinuMinv => minu_minv,
-            Corner::MaxuMinv => step(minu_minv, u, quad.width),
-            Corner::MinuMaxv => step(minu_minv, v, quad.height),
-            Corner::MaxuMaxv => step(step(minu_minv, u, quad.width), v, quad.height),
-        }
+        self.check_drawing(quad)?;
+        Ok(PlacedQuad { face: self, quad }.corners())
     }
 
     // The positions of the four corners, in the order of `quad_corners`: each coordinate times the
     // voxel size. Refuses by 6, then 12, then 14.
-    pub fn quad_mesh_positions(self, quad: UnorientedQuad, voxel_size: f32) -> PositionsAnswer
-        ensures { positions_meaning result ≡ quad_positions self quad voxel_size }
+    pub fn quad_mesh_positions(
+        self,
+        quad: UnorientedQuad,
+        voxel_size: f32,
+    ) -> Result<QuadPositions, Refusal>
+        ensures { meaning result ≡ quad_positions self quad voxel_size }
     {
-        match self.check_placing(quad, voxel_size) {
-            CheckAnswer::Passed => PositionsAnswer::Positions(self.positions(quad, voxel_size)),
-            CheckAnswer::Refused(number, _) => PositionsAnswer::Refused(number),
-        }
-    }
-
-    // The four positions of a quad within the limits.
-    fn positions(self, quad: UnorientedQuad, voxel_size: f32) -> QuadPositions
-        requires { WithinBounds self quad }
-        ensures { result ≡ positions self quad voxel_size }
-    {
-        let minu_minv = self.position(quad, Corner::MinuMinv, voxel_size);
-        let maxu_minv = self.position(quad, Corner::MaxuMinv, voxel_size);
-        let minu_maxv = self.position(quad, Corner::MinuMaxv, voxel_size);
-        let maxu_maxv = self.position(quad, Corner::MaxuMaxv, voxel_size);
-        QuadPositions {
-            minu_minv: minu_minv,
-            maxu_minv: maxu_minv,
-            minu_maxv: minu_maxv,
-            maxu_maxv: maxu_maxv,
-        }
+        self.check_placing(quad, voxel_size)?;
+        Ok(PlacedQuad { face: self, quad }.positions(voxel_size))
     }
 
     // The position of one corner: what the drawing code asks for. Refuses by 6, then 12, then 14.
@@ -394,60 +243,32 @@ impl OrientedBlockFace {
         quad: UnorientedQuad,
         which: Corner,
         voxel_size: f32,
-    ) -> PositionAnswer
-        ensures { position_meaning result ≡ quad_position self quad which voxel_size }
+    ) -> Result<Position, Refusal>
+        ensures { meaning result ≡ quad_position self quad which voxel_size }
     {
-        match self.check_placing(quad, voxel_size) {
-            CheckAnswer::Passed => {
-                let at = self.position(quad, which, voxel_size);
-                PositionAnswer::Position(at.x, at.y, at.z)
-            }
-            CheckAnswer::Refused(number, _) => PositionAnswer::Refused(number),
-        }
+        self.check_placing(quad, voxel_size)?;
+        Ok(PlacedQuad { face: self, quad }.position(which, voxel_size))
     }
 
     // What a call that gives positions checks: 6, then 12, then 14.
-    fn check_placing(self, quad: UnorientedQuad, voxel_size: f32) -> CheckAnswer
-        ensures { check_meaning result ≡ checked (position_checks self quad voxel_size) }
+    fn check_placing(self, quad: UnorientedQuad, voxel_size: f32) -> Result<(), Refusal>
+        ensures { meaning result ≡ checked (position_checks self quad voxel_size) }
     {
-        let drawing = self.check_drawing(quad);
-        let size = check_size(voxel_size);
-        first_refusal(drawing, size)
-    }
-
-    // The position of one corner of a quad within the limits: each coordinate is cast exactly, and
-    // the product is the one rounding.
-    fn position(self, quad: UnorientedQuad, which: Corner, voxel_size: f32) -> Position
-        requires { WithinBounds self quad }
-        ensures { result ≡ position voxel_size (corner self quad which) }
-    {
-        let c = self.corner(quad, which);
-        let x = c.x as f32;
-        let y = c.y as f32;
-        let z = c.z as f32;
-        Position {
-            x: voxel_size * x,
-            y: voxel_size * y,
-            z: voxel_size * z,
-        }
+        first_refusal(self.check_drawing(quad), check_size(voxel_size))
     }
 
     // The signed normal at each of the four corners, its zeros plus zero. Refuses by 6.
-    pub fn quad_mesh_normals(self) -> NormalsAnswer
-        ensures { normals_meaning result ≡ quad_normals self }
+    pub fn quad_mesh_normals(self) -> Result<QuadNormals, Refusal>
+        ensures { meaning result ≡ quad_normals self }
     {
-        match self.check_sign() {
-            CheckAnswer::Passed => {
-                let normal = self.mesh_normal();
-                NormalsAnswer::Normals(QuadNormals {
-                    minu_minv: normal,
-                    maxu_minv: normal,
-                    minu_maxv: normal,
-                    maxu_maxv: normal,
-                })
-            }
-            CheckAnswer::Refused(number, _) => NormalsAnswer::Refused(number),
-        }
+        self.check_sign()?;
+        let normal = self.mesh_normal();
+        Ok(QuadNormals {
+            minu_minv: normal,
+            maxu_minv: normal,
+            minu_maxv: normal,
+            maxu_maxv: normal,
+        })
     }
 
     // The signed normal in f32.
@@ -459,31 +280,25 @@ impl OrientedBlockFace {
         let x = v.x as f32;
         let y = v.y as f32;
         let z = v.z as f32;
-        Normal { x: x, y: y, z: z }
+        Normal { x, y, z }
     }
 
     // Two triangles over the four corners, whose vertices are numbered from `start` in the order of
     // `quad_corners`: so the next quad's first vertex is `start` plus 4. In right-handed axes both
     // triangles run counterclockwise as seen from the side that the face looks to. Refuses by 6,
     // then 13.
-    pub fn quad_mesh_indices(self, start: VertexIndex) -> IndicesAnswer
-        ensures { indices_meaning result ≡ quad_indices self start }
+    pub fn quad_mesh_indices(self, start: VertexIndex) -> Result<QuadIndices, Refusal>
+        ensures { meaning result ≡ quad_indices self start }
     {
-        match self.check_indexing(start) {
-            CheckAnswer::Passed => {
-                IndicesAnswer::Indices(quad_indices(start, self.counter_clockwise()))
-            }
-            CheckAnswer::Refused(number, _) => IndicesAnswer::Refused(number),
-        }
+        self.check_indexing(start)?;
+        Ok(quad_indices(start, self.counter_clockwise()))
     }
 
     // What `quad_mesh_indices` checks: 6, then 13.
-    fn check_indexing(self, start: VertexIndex) -> CheckAnswer
-        ensures { check_meaning result ≡ checked (index_checks self start) }
+    fn check_indexing(self, start: VertexIndex) -> Result<(), Refusal>
+        ensures { meaning result ≡ checked (index_checks self start) }
     {
-        let sign = self.check_sign();
-        let first = check_start(start);
-        first_refusal(sign, first)
+        first_refusal(self.check_sign(), check_start(start))
     }
 
     // Whether the triangles run counterclockwise where u points right and v up.
@@ -505,16 +320,12 @@ impl OrientedBlockFace {
         u_flip_face: Axis,
         flip_v: bool,
         quad: UnorientedQuad,
-    ) -> TexCoordsAnswer
-        ensures { tex_coords_meaning result ≡ quad_textures self u_flip_face flip_v quad }
+    ) -> Result<QuadTexCoords, Refusal>
+        ensures { meaning result ≡ quad_textures self u_flip_face flip_v quad }
     {
-        match self.check_drawing(quad) {
-            CheckAnswer::Passed => {
-                let flip_u = self.flips_u(u_flip_face);
-                TexCoordsAnswer::TexCoords(tex_pairs(flip_u, flip_v, quad.width, quad.height))
-            }
-            CheckAnswer::Refused(number, _) => TexCoordsAnswer::Refused(number),
-        }
+        self.check_drawing(quad)?;
+        let flip_u = self.flips_u(u_flip_face);
+        Ok(tex_pairs(flip_u, flip_v, quad.width, quad.height))
     }
 
     // Whether u is flipped.
@@ -526,91 +337,31 @@ impl OrientedBlockFace {
         let axes = permutation.axes();
         let n = axes.n;
         if self.n_sign < 0 {
-            return u_flip_face.index() != n.index();
+            return u_flip_face != n;
         }
-        u_flip_face.index() == n.index()
+        u_flip_face == n
     }
 }
 
-// A point, `by` steps up along an axis.
-fn step(p: UVec3, axis: Axis, by: u32) -> UVec3
-    requires { along axis p + by < 2 ^ 32 }
-    ensures { result ≡ moved axis by p }
+// Check 14: the voxel size is a number and not infinite.
+fn check_size(voxel_size: f32) -> Result<(), Refusal>
+    ensures { meaning result ≡ checked (bad_size voxel_size ∷ []) }
 {
-    match axis {
-        Axis::X => UVec3 {
-            x: p.x + by,
-            y: p.y,
-            z: p.z,
-        },
-        Axis::Y => UVec3 {
-            x: p.x,
-            y: p.y + by,
-            z: p.z,
-        },
-        Axis::Z => UVec3 {
-            x: p.x,
-            y: p.y,
-            z: p.z + by,
-        },
+    if !voxel_size.is_finite() {
+        return Err(Reason::VoxelSize.at(0));
     }
-}
-
-// Whether a voxel's coordinates are all below the largest axis.
-fn minimum_within_limits(p: UVec3) -> bool
-    ensures { result ≡ minimum_within_limits p }
-{
-    if LARGEST_AXIS <= p.x {
-        return false;
-    }
-    if LARGEST_AXIS <= p.y {
-        return false;
-    }
-    if LARGEST_AXIS <= p.z {
-        return false;
-    }
-    true
-}
-
-// Whether a side is at least 1 long and ends within the largest axis.
-fn side_within_limits(start: u32, side: u32) -> bool
-    ensures { result ≡ side_within_limits start side }
-{
-    if side == 0 {
-        return false;
-    }
-    if LARGEST_AXIS < start {
-        return false;
-    }
-    if LARGEST_AXIS - start < side {
-        return false;
-    }
-    true
-}
-
-// Check 14: the voxel size is a number and not infinite. (A constant cannot be infinite here, so
-// infinity is made by a division.)
-fn check_size(voxel_size: f32) -> CheckAnswer
-    ensures { check_meaning result ≡ checked (bad_size voxel_size ∷ []) }
-{
-    let infinity: f32 = 1.0 / 0.0;
-    if voxel_size < infinity {
-        if -infinity < voxel_size {
-            return CheckAnswer::Passed;
-        }
-    }
-    CheckAnswer::Refused(refusal::VOXEL_SIZE, 0)
+    Ok(())
 }
 
 // Check 13: three more vertex numbers fit after the first.
-fn check_start(start: VertexIndex) -> CheckAnswer
-    ensures { check_meaning result ≡ checked (bad_start start ∷ []) }
+fn check_start(start: VertexIndex) -> Result<(), Refusal>
+    ensures { meaning result ≡ checked (bad_start start ∷ []) }
 {
     let first = start.0;
     if LAST_START < first {
-        return CheckAnswer::Refused(refusal::FIRST_INDEX, 0);
+        return Err(Reason::ManyVertices.at(0));
     }
-    CheckAnswer::Passed
+    Ok(())
 }
 
 // The vertex numbers of two triangles.

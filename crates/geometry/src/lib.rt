@@ -5,6 +5,7 @@
 
 pub mod axis;
 pub mod face;
+mod placed;
 pub mod quad;
 pub mod refusal;
 pub mod vector;

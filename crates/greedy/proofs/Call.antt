@@ -34,11 +34,11 @@ use Rattle.rules.specs.Drawn.{GroupDrawn}
 use Rattle.rules.proofs.Counts.{how_many_append}
 use Rattle.rules.proofs.Demand.{greedy_cover, greedy_areas, greedy_tests_lem, greedy_uniform}
 use Rattle.rules.proofs.Drawn.{greedy_drawn}
-use Rattle.greedy.specs.Greedy.{Listed, listed, quad_numbers, numbers_of, listed_groups, GreedyOutcome, outcome, greedy_from, greedy_quads}
+use Rattle.greedy.specs.Greedy.{Listed, listed, quad_numbers, numbers_of, listed_groups, GreedyAnswer, greedy_answer, GreedyOutcome, outcome, greedy_from, greedy_quads}
 use Rattle.greedy.specs.Call.{quad_from, GroupMeshed, TestsBounded, CallHolds, PartMeshed, NineHolds}
 use Rattle.greedy.proofs.Outcome.{numbers_length}
 use Rattle.voxels.specs.declared.extent.Extent.{Extent}
-use Rattle.greedy.specs.declared.GreedyAnswer.{GreedyAnswer}
+use Rattle.geometry.specs.Answers.{meaning}
 use Rattle.greedy.specs.contracts.greedy_quads
 use Rattle.greedy.proofs.greedy_quads.Kinds as greedy-quads-kinds
 use Rattle.greedy.proofs.greedy_quads.Reads as greedy-quads
@@ -148,10 +148,14 @@ module _ (voxels : List ℕ) (shape min max : Point) (faces : List OrientedBlock
 -- Of the contract of `greedy_quads` itself: its arguments are the voxels, the shape, min, max, the faces, the visited bytes and the output.
 module _ (κs : Lifetimes.Lfts 3) (a : World.ArgsD greedy_quads.signature κs) (r : World.ResD greedy_quads.signature κs)
     (s : Clauses.AtExit (Kinds.ended_of 3 greedy-quads-kinds.ps greedy-quads-kinds.r) κs) (post : greedy-quads.Post κs a r s) where
+  -- What it answers.
+  abbrev answered : GreedyAnswer
+  answered = greedy_answer (meaning r)
+
   -- A call that answers 0,
-  pub call_holds : r.mesh.refusal ≡ 0 → CallHolds a.0.now a.1.0 a.1.1.0 a.1.1.1.0 a.1.1.1.1.0 r s.1.1.1.1.1.1.0.now
+  pub call_holds : answered.mesh.refusal ≡ 0 → CallHolds a.0.now a.1.0 a.1.1.0 a.1.1.1.0 a.1.1.1.1.0 answered s.1.1.1.1.1.1.0.now
   call_holds = outcome_holds _ _ _ _ _ _ _ _ _ _ post
 
   -- and one that answers 9.
-  pub nine_holds : r.mesh.refusal ≡ 9 → NineHolds a.0.now a.1.0 a.1.1.0 a.1.1.1.0 a.1.1.1.1.0 r s.1.1.1.1.1.1.0.now
+  pub nine_holds : answered.mesh.refusal ≡ 9 → NineHolds a.0.now a.1.0 a.1.1.0 a.1.1.1.0 a.1.1.1.1.0 answered s.1.1.1.1.1.1.0.now
   nine_holds = outcome_nine _ _ _ _ _ _ _ _ _ _ post

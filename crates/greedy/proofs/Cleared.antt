@@ -3,17 +3,18 @@ use mathlib.Core.List.{List, ◌++◌}
 use mathlib.Core.Path.{◌≡◌, ◌∙◌, ap}
 use Prim.Native.Nat.{ℕ, ◌≤◌, ◌<◌}
 use native.Mathlib.Omega.{arith}
-use lib.ListN.{length, get_or, drop, replicate, length-append, length-drop, length-replicate, get_or-replicate, get_or-append}
+use lib.ListN.{length, get_or, take, drop, replicate, length-append, length-drop, length-replicate, get_or-replicate, get_or-append}
 use lib.Seq.{drop_at}
+use Rattle.std.proofs.lemmas.List.{length-take-le}
 use Rattle.listing.specs.Listing.{overwritten}
-
--- A loop that clears them, at its end.
-pub cleared : (n i : ℕ) (marks was : List ℕ) → n ≤ i → i ≤ n → marks ≡ replicate i 0 ++ drop i was → marks ≡ overwritten (replicate n 0) was
-unfolding overwritten
-cleared n i marks was h l e = let same : i ≡ n = omega arith in rw length-replicate (rw same at e)
 
 zeros : (n : ℕ) → length {A = ℕ} (replicate n 0) ≡ n
 zeros n = length-replicate n 0
+
+-- The first n filled with 0, before the others.
+pub cleared : (n : ℕ) (was : List ℕ) → n ≤ length was → (filled : List ℕ) → filled ≡ replicate (length (take n was)) 0 → filled ++ drop n was ≡ overwritten (replicate n 0) was
+unfolding overwritten
+cleared n was h filled is = rw (zeros n, is, length-take-le n was h)
 
 -- Clearing keeps the number of bytes,
 pub cleared_length : (n : ℕ) (marks : List ℕ) → n ≤ length marks → length (overwritten (replicate n 0) marks) ≡ length marks

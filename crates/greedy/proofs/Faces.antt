@@ -53,7 +53,7 @@ module _ (lent : ℕ) (shape : Point) (inner : Extent) (entered : Entered lent s
       → dn.0 ≡ stride shape axes.n % modulus → du.0 ≡ stride shape axes.u % modulus → dv.0 ≡ stride shape axes.v % modulus
       → offset.0 ≡ visibility_offset (positive f.n_sign) dn.0
       → slices ≡ span_of shape inner axes.n → rows ≡ span_of shape inner (slower axes.n) → row ≡ span_of shape inner (faster axes.n)
-      → record { axes = axes; visibility_offset = offset; u_stride = du; v_stride = dv; bound = inner.bound; slices = slices; rows = rows; row = row } ≡ face_scan shape inner f
+      → record { axes = axes; strides = record { u_stride = du; v_stride = dv; visibility_offset = offset }; bound = inner.bound; slices = slices; rows = rows; row = row } ≡ face_scan shape inner f
   unfolding face_scan
   scan_from f axes dn du dv offset slices rows row is n u v o a b c =
       rw (a, b, c, o, entered_stride lent shape inner entered axes.n n, entered_stride lent shape inner entered axes.u u, entered_stride lent shape inner entered axes.v v, is)

@@ -1,4 +1,6 @@
 -- Laws, and what is shown of the contract itself. A function's own proof stands in the folder named after it.
+-- Of a loop that changes a state.
+pub mod Steps
 -- Of walks, and the tests that they make.
 pub mod Walks
 -- Of the rectangle that the walk picks, by indices.

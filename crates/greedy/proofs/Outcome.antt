@@ -1,14 +1,14 @@
 -- From the faces' groups to the whole outcome: the tests summed, what laying the groups answers, what a refused entry leaves, and what an accepted one is known to be and leaves.
-use mathlib.Core.List.{List, []}
+use mathlib.Core.List.{List}
 use mathlib.Core.Path.{◌≡◌, refl, sym, ◌∙◌, ap}
-use Prim.Native.Nat.{ℕ, ◌≤◌, ◌<◌}
+use Prim.Native.Nat.{ℕ}
 use native.Mathlib.Omega.{arith}
 use lib.ListN.{length, replicate}
-use borrow.Author.Tests.{lt-ltb, le-ltb, ltb-false}
+use borrow.Author.Tests.{ltb-false}
 use Rattle.geometry.specs.declared.face.OrientedBlockFace.{OrientedBlockFace}
 use Rattle.geometry.specs.Point.{Point}
 use Rattle.geometry.specs.Refusal.{Answer, accepted, refused, Check, answer}
-use Rattle.geometry.proofs.Refusals.{applies, passes, accepts_value, accepts_checked, first_passes, answer_refused}
+use Rattle.geometry.proofs.Refusals.{accepts_value, accepts_checked, first_passes, answer_refused}
 use Rattle.voxels.specs.Shape.{size, Field, field}
 use Rattle.voxels.specs.Checks.{greedy_checks}
 use Rattle.voxels.specs.Answers.{entry}
@@ -20,11 +20,10 @@ use Rattle.listing.specs.Outcome.{mesh_answer, reported, listed_after, MeshOutco
 use Rattle.listing.proofs.Groups.{laid_answer}
 use Rattle.listing.proofs.Outcome.{made_outcome}
 use Rattle.rules.specs.Greedy.{greedy_tests}
-use Rattle.greedy.specs.Greedy.{Listed, quad_numbers, numbers_of, listed_groups, GreedyOutcome, outcome, greedy_from, greedy_quads}
+use Rattle.greedy.specs.Greedy.{Listed, quad_numbers, numbers_of, listed_groups, GreedyOutcome, greedy_answer, outcome, greedy_from, greedy_quads}
 use Rattle.greedy.specs.Scans.{Accepted, FacesMeshed}
 use Rattle.greedy.proofs.Cleared.{cleared_again}
 use Rattle.greedy.specs.declared.Meshed.{Meshed}
-use Rattle.listing.specs.declared.MeshAnswer.{MeshAnswer}
 use Rattle.voxels.specs.declared.extent.Extent.{Extent}
 use Rattle.voxels.specs.declared.bounds.Entry.{Entry}
 
@@ -36,30 +35,35 @@ numbers_length l = refl
 
 module _ {vs : List ℕ} {shape : Point} {inner : Extent} {faces : List OrientedBlockFace} {was_marks was marks out : List ℕ} {r : Meshed} (made : FacesMeshed vs shape inner faces was_marks was marks out r)
     {n : ℕ} (all : n ≡ size shape) {room : ℕ} (is : room ≡ capacity quad_numbers (length was))
-    {mesh : MeshAnswer} (answered : mesh ≡ mesh_answer (answer (too_many r.listed room) r.counts)) {bytes : List ℕ} (cleared : bytes ≡ overwritten (replicate n 0) marks) where
+    {bytes : List ℕ} (cleared : bytes ≡ overwritten (replicate n 0) marks) where
   abbrev v : Field
   v = field shape vs
 
-  -- What the groups leave is what meshing leaves, once the tests are those that are reported.
-  made_leaves : {t : ℕ} → t ≡ reported (lay quad_numbers numbers_of (listed_groups inner v faces) was).answer (greedy_tests inner v faces)
-      → outcome (record { mesh = mesh; tests = t }) bytes out ≡ greedy_from (accepted tt) n inner v faces was_marks was
-  unfolding greedy_from listed_after
-  made_leaves e =
-      let left = made_outcome quad_numbers numbers_of (omega arith) numbers_length made.made is answered in
-      rw (e, cleared, cleared_again n marks was_marks (rw (← all) at made.rest))
-      (ap (λ (o : MeshOutcome). record { mesh = o; tests = reported (lay quad_numbers numbers_of (listed_groups inner v faces) was).answer (greedy_tests inner v faces); visited_bytes = overwritten (replicate n 0) was_marks }) left)
+  abbrev tests : ℕ
+  tests = greedy_tests inner v faces
 
-  answer_is : answer (too_many r.listed room) r.counts ≡ (lay quad_numbers numbers_of (listed_groups inner v faces) was).answer
-  answer_is = laid_answer quad_numbers numbers_of (omega arith) numbers_length made.made is
+  abbrev laid : Answer (List ℕ)
+  laid = (lay quad_numbers numbers_of (listed_groups inner v faces) was).answer
+
+  -- What the groups leave is what meshing leaves, once it answers by their number, and reports what is reported with that.
+  made_leaves : (x : Answer (List ℕ)) → x ≡ answer (too_many r.listed room) r.counts → {t : ℕ} → t ≡ reported x tests
+      → outcome (record { mesh = mesh_answer x; tests = t }) bytes out ≡ greedy_from (accepted tt) n inner v faces was_marks was
+  unfolding greedy_from listed_after
+  made_leaves x told e =
+      let left = made_outcome quad_numbers numbers_of (omega arith) numbers_length made.made is (ap mesh_answer told) in
+      let same = told ∙ laid_answer quad_numbers numbers_of (omega arith) numbers_length made.made is in
+      rw (e ∙ ap (λ (a : Answer (List ℕ)). reported a tests) same, cleared, cleared_again n marks was_marks (rw (← all) at made.rest))
+      (ap (λ (o : MeshOutcome). record { mesh = o; tests = reported laid tests; visited_bytes = overwritten (replicate n 0) was_marks }) left)
 
   -- More than fit are refused, and no tests are reported,
-  pub many_left : room < r.listed → outcome (record { mesh = mesh; tests = 0 }) bytes out ≡ greedy_from (accepted tt) n inner v faces was_marks was
-  many_left h = made_leaves (ap (λ (a : Answer (List ℕ)). reported a (greedy_tests inner v faces)) (sym (applies _ _ r.counts (lt-ltb room r.listed h)) ∙ answer_is))
+  pub many_left : {m p : ℕ} → refused m p ≡ answer (too_many r.listed room) r.counts
+      → outcome (record { mesh = mesh_answer (refused m p); tests = 0 }) bytes out ≡ greedy_from (accepted tt) n inner v faces was_marks was
+  many_left told = made_leaves (refused _ _) told refl
 
   -- and where all fit they are.
-  pub all_left : r.listed ≤ room → outcome (record { mesh = mesh; tests = r.tests }) bytes out ≡ greedy_from (accepted tt) n inner v faces was_marks was
-  unfolding answer
-  all_left h = made_leaves (made.tests_are ∙ ap (λ (a : Answer (List ℕ)). reported a (greedy_tests inner v faces)) (sym (passes _ [] r.counts (le-ltb room r.listed h)) ∙ answer_is))
+  pub all_left : {counts : List ℕ} → accepted counts ≡ answer (too_many r.listed room) r.counts
+      → outcome (record { mesh = mesh_answer (accepted counts); tests = r.tests }) bytes out ≡ greedy_from (accepted tt) n inner v faces was_marks was
+  all_left told = made_leaves (accepted _) told made.tests_are
 
 -- ---- the entry
 
@@ -68,10 +72,10 @@ module _ (voxels : List ℕ) (shape min max : Point) (faces : List OrientedBlock
   checks = greedy_checks voxels shape min max faces (length bytes)
 
   -- A refused entry leaves both buffers as they were.
-  pub refused_outcome : (out : List ℕ) (r : MeshAnswer) {n p : ℕ} → answer checks (entry shape min max) ≡ refused n p → r ≡ mesh_answer (refused n p)
-      → outcome (record { mesh = r; tests = 0 }) bytes out ≡ greedy_quads voxels shape min max faces bytes out
+  pub refused_outcome : (out : List ℕ) {n p : ℕ} → answer checks (entry shape min max) ≡ refused n p
+      → outcome (greedy_answer (refused n p)) bytes out ≡ greedy_quads voxels shape min max faces bytes out
   unfolding greedy_quads greedy_from listed_after
-  refused_outcome out r e is = rw (answer_refused checks (entry shape min max) e, is)
+  refused_outcome out e = rw (answer_refused checks (entry shape min max) e)
 
   module _ (e : Entry) (enters : answer checks (entry shape min max) ≡ accepted e) where
     -- An accepted entry gives the number of voxels and the interior of a box that passed the checks.

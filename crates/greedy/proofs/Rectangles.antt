@@ -53,16 +53,16 @@ quad_marked vn mn off i du wide dv high w h ready sw sh lw lh =
 -- ---- a rectangle at a point of a scan
 
 -- Its test reads what was lent.
-pub spot_touches : {vn mn : ℕ} (c : FaceScan) (p : Point) (i : ℕ) → SpotReady vn mn c p i → Touches vn mn c.visibility_offset.0 i
+pub spot_touches : {vn mn : ℕ} (c : FaceScan) (p : Point) (i : ℕ) → SpotReady vn mn c p i → Touches vn mn c.strides.visibility_offset.0 i
 spot_touches c p i ready = rw (zero-mul, add-zero) at ((first_row _ _ _ _ _ _ _ _ ready.quad).each 0 ready.quad.wide_some)
 
 -- The rectangle that is picked at a point and its index.
 abbrev pub picked_at : List ℕ → List ℕ → FaceScan → Point → ℕ → Pick
-picked_at vs marks c p i = quad_at vs marks c.visibility_offset.0 c.u_stride.0 c.v_stride.0 (room_to c.axes.u c.bound p) (room_to c.axes.v c.bound p) i
+picked_at vs marks c p i = quad_at vs marks c.strides.visibility_offset.0 c.strides.u_stride.0 c.strides.v_stride.0 (room_to c.axes.u c.bound p) (room_to c.axes.v c.bound p) i
 
 module _ {vn mn : ℕ} (vs marks : List ℕ) (c : FaceScan) (p : Point) (i : ℕ) (ready : SpotReady vn mn c p i) {q : Pick} (is : q ≡ picked_at vs marks c p i) where
   -- Its marks were lent,
-  pub picked_marked : QuadMarked mn c.u_stride.0 q.width c.v_stride.0 q.height i
+  pub picked_marked : QuadMarked mn c.strides.u_stride.0 q.width c.strides.v_stride.0 q.height i
   picked_marked =
       quad_marked _ _ _ _ _ _ _ _ _ _ ready.quad ready.wide_short ready.high_short (quad_wide vs marks _ _ _ _ _ i is) (quad_high vs marks _ _ _ _ _ i is ready.quad.high_some)
 

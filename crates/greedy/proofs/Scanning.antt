@@ -1,89 +1,86 @@
--- A face's scan by indices: what a scanned voxel leaves, and loops that scan, of which what is scanned and what is left make the whole.
+-- A face's scan by indices: what a scanned voxel leaves, and loops that scan, by what they have made so far.
 use mathlib.Core.Bool.{true, false}
 use mathlib.Core.List.{List}
-use mathlib.Core.Path.{◌≡◌, refl, ◌∙◌, ap}
-use Prim.Native.Nat.{ℕ, ◌+◌, ◌-◌, ◌*◌, ◌≤◌, ◌<◌}
-use native.Mathlib.Nat.{mul-le-mul_right}
+use mathlib.Core.Path.{◌≡◌, refl, ◌∙◌}
+use Prim.Native.Nat.{ℕ, ◌+◌, ◌*◌, ◌≤◌, ◌<◌}
 use native.Mathlib.Omega.{arith}
 use lib.ListN.{length}
 use Rattle.geometry.specs.Point.{Point}
 use Rattle.voxels.specs.Loop.{steps}
-use Rattle.voxels.proofs.Loops.{Underway, underway_start, underway_on, underway_done, stride_more, stride_fits, steps_start, steps_on, steps_done}
-use Rattle.listing.specs.Pushed.{Output, pushed}
+use Rattle.voxels.proofs.Loops.{stride_more}
 use Rattle.listing.proofs.Pushed.{pushed_counts}
 use Rattle.rules.specs.Group.{Pick, quad_of}
 use Rattle.greedy.specs.Greedy.{listed, quad_numbers, numbers_of}
 use Rattle.greedy.specs.Walks.{needs_at}
 use Rattle.greedy.specs.Marks.{Stepping, mark_quad_at}
-use Rattle.greedy.specs.Scans.{Scanned, laid_by, laid_at, scanned_at, SpotReady, voxel_tests, Scans, QuadLaid, RoomFor}
+use Rattle.greedy.specs.Scans.{Scanned, listed_on, laid_by, laid_at, scanned_at, SpotReady, voxel_tests, Scans, QuadLaid, SameCall, progress}
+use Rattle.greedy.proofs.Steps.{steps_none, steps_next}
+use Rattle.greedy.specs.declared.Mesher.{Mesher}
 use Rattle.greedy.proofs.Rectangles.{picked_at, picked_tests}
 use Rattle.greedy.specs.declared.face_scan.FaceScan.{FaceScan}
 
+-- A voxel that needs no mesh is only tested.
+pub scanned_idle : (vs : List ℕ) (c : FaceScan) (s : Scanned) (p : Point) (i : ℕ) → needs_at vs s.marks c.strides.visibility_offset.0 i ≡ false
+    → scanned_at vs c s p i ≡ record { marks = s.marks; output = s.output; tests = s.tests + 1 }
+unfolding scanned_at
+scanned_idle vs c s p i e = rw (e, scanned_at)
+
 module _ (vs : List ℕ) (c : FaceScan) (p : Point) (i : ℕ) (s : Scanned) (few : s.output.listed ≤ s.tests) where
   -- A rectangle that was picked, marked and listed is laid.
-  pub laid_made : {vn mn : ℕ} (q : Pick) (marks : List ℕ) (out : Output) → SpotReady vn mn c p i
+  pub laid_made : {vn mn : ℕ} (q : Pick) (marks : List ℕ) (t : Scanned) → SpotReady vn mn c p i
       → q ≡ picked_at vs s.marks c p i
-      → marks ≡ mark_quad_at c.u_stride.0 q.width c.v_stride.0 q.height s.marks i
-      → out ≡ pushed quad_numbers numbers_of s.output (listed (quad_of p q))
-      → QuadLaid vs c p i s (record { marks = marks; output = out; tests = s.tests + 1 + q.tests })
+      → marks ≡ mark_quad_at c.strides.u_stride.0 q.width c.strides.v_stride.0 q.height s.marks i
+      → t ≡ listed_on (record { marks = marks; output = s.output; tests = s.tests }) (quad_of p q)
+      → QuadLaid vs c p i s (record { marks = t.marks; output = t.output; tests = t.tests + (1 + q.tests) })
   unfolding laid_at laid_by
-  laid_made q marks out ready is marked push =
+  laid_made q marks t ready is marked push =
+      let tests_are : s.tests + (1 + q.tests) ≡ s.tests + 1 + q.tests = omega arith in
       record {
-        is = rw (← is, ← marked, ← push);
-        few = omega (arith, ap (λ (o : Output). o.listed) push, pushed_counts quad_numbers numbers_of s.output (listed (quad_of p q)));
-        bound = omega (arith, picked_tests vs s.marks c p i ready is);
+        is = rw (push, tests_are, ← is, ← marked);
+        few = rw push (omega (arith, pushed_counts quad_numbers numbers_of s.output (listed (quad_of p q))));
+        bound = rw push (omega (arith, picked_tests vs s.marks c p i ready is));
       }
 
-  -- A voxel that needs no mesh is only tested,
-  pub scanned_none : needs_at vs s.marks c.visibility_offset.0 i ≡ false
-      → Scans (λ (s : Scanned). scanned_at vs c s p i) voxel_tests s (record { marks = s.marks; output = s.output; tests = s.tests + 1 })
-  unfolding scanned_at
-  scanned_none e = record { is = rw (e, scanned_at); few = omega arith; bound = omega arith }
-
-  -- and of another the rectangle is laid.
-  pub scanned_laid : needs_at vs s.marks c.visibility_offset.0 i ≡ true → {t : Scanned} → QuadLaid vs c p i s t → Scans (λ (s : Scanned). scanned_at vs c s p i) voxel_tests s t
+  -- Of a voxel that needs a mesh the rectangle is laid.
+  pub scanned_laid : needs_at vs s.marks c.strides.visibility_offset.0 i ≡ true → {t : Scanned} → QuadLaid vs c p i s t → Scans (λ (s : Scanned). scanned_at vs c s p i) voxel_tests s t
   unfolding scanned_at
   scanned_laid e laid = record { is = rw (e, scanned_at) laid.is; few = laid.few; bound = laid.bound }
 
 -- ---- a scan underway
 
--- A loop that scans, k of n done: it stands at the index j, its buffers are as long as they were, each turn took at most so many tests, and what is made and what is left make the whole.
-pub record Scanning (act : Scanned → ℕ → ℕ → Scanned) (most d a i n : ℕ) (was now : Scanned) (k j : ℕ) : Type 0 where
-  pub at : Underway d i n k j
-  pub marks_long : length now.marks ≡ length was.marks
-  pub out_long : length now.output.out ≡ length was.output.out
-  pub few : now.output.listed ≤ now.tests
+-- A mesher is at its own call, and where it is still at that of another, which is at a third's, it is at the third's.
+pub same_start : {m : Mesher} → SameCall m m
+same_start = record { block = refl; visited = refl; out = refl; marks_long = refl; out_long = refl }
+
+pub same_on : {was now then : Mesher} → SameCall was now → SameCall now then → SameCall was then
+same_on s t = record { block = t.block ∙ s.block; visited = t.visited ∙ s.visited; out = t.out ∙ s.out; marks_long = t.marks_long ∙ s.marks_long; out_long = t.out_long ∙ s.out_long }
+
+-- A loop that scans, k turns done: it is at the same call, it has made what the rule makes by then, no more quads than tests, and each turn took at most so many tests.
+pub record Scanning (act : List ℕ → Scanned → ℕ → ℕ → Scanned) (most d a i : ℕ) (was now : Mesher) (k : ℕ) : Type 0 where
+  pub same : SameCall was now
+  pub made : progress now ≡ steps d (act was.block.voxels.now) (progress was) a i k
+  pub few : now.listed ≤ now.tests
   pub bound : now.tests ≤ was.tests + k * most
-  pub whole : steps d act now (a + k) j (n - k) ≡ steps d act was a i n
 
-module _ {act : Scanned → ℕ → ℕ → Scanned} {most d a i n : ℕ} {was : Scanned} where
-  pub scan_start : was.output.listed ≤ was.tests → Scanning act most d a i n was was 0 i
-  scan_start few = record { at = underway_start; marks_long = refl; out_long = refl; few = few; bound = omega arith; whole = steps_start d act was a i n }
+module _ {act : List ℕ → Scanned → ℕ → ℕ → Scanned} {most d a i : ℕ} {was : Mesher} where
+  pub scan_start : was.listed ≤ was.tests → Scanning act most d a i was was 0
+  scan_start few = record { same = same_start; made = steps_none d (act was.block.voxels.now) (progress was) a i; few = few; bound = omega arith }
 
-  module _ {now : Scanned} {k j : ℕ} (l : Scanning act most d a i n was now k j) where
-    -- Its tests fit,
-    pub scan_tests : {all : ℕ} → was.tests + n * most ≤ all → now.tests ≤ all
-    scan_tests fits = omega (arith, l.bound, mul-le-mul_right {m = k} {n = n} most l.at.within)
+  module _ {now : Mesher} {k : ℕ} (l : Scanning act most d a i was now k) where
+    -- What the loop asks for holds of the next turn, by the buffers as they are now.
+    pub scan_asks : (Asked : ℕ → ℕ → ℕ → ℕ → Type 0) {n : ℕ} → Stepping (Asked (length was.block.voxels.now) (length was.visited.now)) d a i n → k < n
+        → Asked (length now.block.voxels.now) (length now.visited.now) (a + k) (i + k * d)
+    scan_asks Asked ready h = rw (l.same.block, l.same.marks_long) (ready.each k h)
 
-    -- and there is room for those of one more turn.
-    pub scan_room : k < n → RoomFor (n * most) was → RoomFor most now
-    scan_room h room = (l.few, omega (arith, room.1, stride_fits k n most h, l.bound))
-
-    -- What the loop asks for holds of the next turn, by the bytes as they are now.
-    pub scan_asks : (Asked : ℕ → ℕ → ℕ → Type 0) → Stepping (Asked (length was.marks)) d a i n → k < n → Asked (length now.marks) (a + k) j
-    scan_asks Asked ready h = rw (l.at.place, l.marks_long) (ready.each k h)
-
-    pub scan_on : {then : Scanned} → k < n → Scans (λ (s : Scanned). act s (a + k) j) most now then → length then.marks ≡ length now.marks → length then.output.out ≡ length now.output.out
-        → Scanning act most d a i n was then (k + 1) (j + d)
-    scan_on h made em eo =
+    pub scan_on : {then : Mesher} → SameCall now then → Scans (λ (s : Scanned). act now.block.voxels.now s (a + k) (i + k * d)) most (progress now) (progress then)
+        → Scanning act most d a i was then (k + 1)
+    scan_on {then = then} same made =
         record {
-          at = underway_on l.at h;
-          marks_long = em ∙ l.marks_long;
-          out_long = eo ∙ l.out_long;
+          same = same_on l.same same;
+          made = steps_next d (act was.block.voxels.now) (progress was) a i k (progress now) (progress then) l.made (rw l.same.block at made.is);
           few = made.few;
           bound = omega (arith, made.bound, l.bound, stride_more k most);
-          whole = steps_on d act now _ _ a j k n h made.is l.whole;
         }
 
-    pub scan_done : n ≤ k → Scans (λ (s : Scanned). steps d act s a i n) (n * most) was now
-    scan_done h = record { is = steps_done d act _ _ a j k n h l.whole; few = l.few; bound = rw (underway_done l.at h) at l.bound }
+    pub scan_done : {n : ℕ} → k ≡ n → Scans (λ (s : Scanned). steps d (act was.block.voxels.now) s a i n) (n * most) (progress was) (progress now)
+    scan_done e = rw (← e) (record { is = l.made; few = l.few; bound = l.bound })

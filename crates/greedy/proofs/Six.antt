@@ -18,7 +18,10 @@ use Rattle.listing.specs.Pushed.{output, pushed_all}
 use Rattle.listing.proofs.Groups.{take_next, all_after, groups_next, counts_next, groups_done, counts_done}
 use Rattle.rules.specs.Greedy.{greedy_group, greedy_tests}
 use Rattle.greedy.specs.Greedy.{Listed, listed_group, listed_groups, quad_numbers, numbers_of}
-use Rattle.greedy.specs.Scans.{Scanned, progress, voxel_tests, RoomFor, SameFrom, FaceMeshed, FacesMeshed}
+use Rattle.greedy.specs.Scans.{progress, SameCall, voxel_tests, SameFrom, FaceMeshed, FacesMeshed}
+use Rattle.greedy.proofs.Scanning.{same_start, same_on}
+use Rattle.greedy.specs.declared.Mesher.{Mesher}
+use Rattle.greedy.specs.declared.Meshed.{Meshed}
 
 -- What stands past the end of a list of faces.
 abbrev pub no_face : OrientedBlockFace
@@ -43,61 +46,68 @@ module _ (inner : Extent) (v : Field) where
 
 -- ---- the loop
 
--- k of six faces are meshed: the buffers are as long as they were, and what was listed, counted and tested are those faces' groups.
-pub record SixMeshing (vs : List ℕ) (shape : Point) (inner : Extent) (faces : List OrientedBlockFace) (marks₀ out₀ marks out counts : List ℕ) (listed tests k : ℕ) : Type 0 where
+-- The field that a mesher's block makes, and the quads that a face lists of it.
+abbrev field_of : Mesher → Field
+field_of m = field m.block.voxels_shape m.block.voxels.now
+
+abbrev group_of : Mesher → OrientedBlockFace → List Listed
+group_of m f = listed_group m.block.interior (field_of m) f
+
+-- k of six faces are meshed: the mesher is at the same call, and what it has listed, counted and tested are those faces' groups.
+pub record SixMeshing (faces : List OrientedBlockFace) (was now : Mesher) (counts : List ℕ) (k : ℕ) : Type 0 where
   pub six : length faces ≡ 6
-  pub within : k ≤ 6
-  pub marks_long : length marks ≡ length marks₀
-  pub out_long : length out ≡ length out₀
-  pub few : listed ≤ tests
-  pub bound : tests ≤ k * (most_voxels * voxel_tests)
-  pub lists : output out listed ≡ pushed_all quad_numbers numbers_of (output out₀ 0) (joined (map (listed_group inner (field shape vs)) (take k faces)))
-  pub counted : counts ≡ map length (map (listed_group inner (field shape vs)) (take k faces)) ++ replicate (6 - k) 0
-  pub tested : tests ≡ greedy_tests inner (field shape vs) (take k faces)
-  pub rest : SameFrom (size shape) marks₀ marks
+  pub same : SameCall was now
+  pub few : now.listed ≤ now.tests
+  pub bound : now.tests ≤ k * (most_voxels * voxel_tests)
+  pub lists : output now.out.now now.listed ≡ pushed_all quad_numbers numbers_of (output was.out.now 0) (joined (map (group_of was) (take k faces)))
+  pub counted : counts ≡ map length (map (group_of was) (take k faces)) ++ replicate (6 - k) 0
+  pub tested : now.tests ≡ greedy_tests was.block.interior (field_of was) (take k faces)
+  pub rest : SameFrom (size was.block.voxels_shape) was.visited.now now.visited.now
 
-module _ {vs : List ℕ} {shape : Point} {inner : Extent} {faces : List OrientedBlockFace} {marks₀ out₀ : List ℕ} where
-  pub six_start : length faces ≡ 6 → SixMeshing vs shape inner faces marks₀ out₀ marks₀ out₀ (replicate 6 0) 0 0 0
+module _ {faces : List OrientedBlockFace} {was : Mesher} where
+  pub six_start : length faces ≡ 6 → was.listed ≡ 0 → was.tests ≡ 0 → SixMeshing faces was was (replicate 6 0) 0
   unfolding joined pushed_all greedy_tests
-  six_start six =
-      record { six = six; within = omega arith; marks_long = refl; out_long = refl; few = omega arith; bound = omega arith; lists = refl; counted = refl; tested = refl; rest = refl }
+  six_start six none untested =
+      record { six = six; same = same_start; few = omega arith; bound = omega arith; lists = rw none; counted = refl; tested = untested; rest = refl }
 
-  module _ {marks out counts : List ℕ} {listed tests k : ℕ} (l : SixMeshing vs shape inner faces marks₀ out₀ marks out counts listed tests k) where
-    -- There is room for a face's tests.
-    pub six_room : k < 6 → RoomFor (most_voxels * voxel_tests) (progress marks out (record { listed = listed; tests = tests }))
-    six_room h = (l.few, omega (arith, l.bound))
+  module _ {now : Mesher} {counts : List ℕ} {k : ℕ} (l : SixMeshing faces was now counts k) where
+    module _ (then : Mesher) (made : FaceMeshed now.block.voxels.now now.block.voxels_shape now.block.interior (get_or faces k no_face) (progress now) (progress then)) where
+      -- It is the face's group of the block that the call began with.
+      group : FaceMeshed was.block.voxels.now was.block.voxels_shape was.block.interior (get_or faces k no_face) (progress now) (progress then)
+      group = rw l.same.block at made
 
-    module _ {now : Scanned} (made : FaceMeshed vs shape inner (get_or faces k no_face) (progress marks out (record { listed = listed; tests = tests })) now) where
       -- A face lists as many quads more as its group has,
-      pub six_more : now.output.listed ≡ listed + length (listed_group inner (field shape vs) (get_or faces k no_face))
-      six_more = all_after quad_numbers numbers_of out now.output.out listed now.output.listed _ made.is
+      pub six_more : then.listed ≡ now.listed + length (group_of was (get_or faces k no_face))
+      six_more = all_after quad_numbers numbers_of now.out.now then.out.now now.listed then.listed _ group.is
 
       -- and then one more is meshed.
-      pub six_on : k < 6 → length now.marks ≡ length marks → length now.output.out ≡ length out
-          → SixMeshing vs shape inner faces marks₀ out₀ now.marks now.output.out (set counts k (now.output.listed - listed)) now.output.listed now.tests (k + 1)
-      six_on h em eo =
+      pub six_on : k < 6 → SameCall now then → SixMeshing faces was then (set counts k (then.listed - now.listed)) (k + 1)
+      six_on h same =
           record {
             six = l.six;
-            within = omega arith;
-            marks_long = em ∙ l.marks_long;
-            out_long = eo ∙ l.out_long;
-            few = made.few;
-            bound = omega (arith, made.bound, l.bound);
-            lists = groups_next quad_numbers numbers_of (listed_group inner (field shape vs)) faces no_face k out₀ (omega (arith, l.six)) l.lists made.is;
-            counted = counts_next quad_numbers numbers_of (listed_group inner (field shape vs)) faces no_face k 6 counts _ l.six h l.counted (omega (arith, six_more));
-            tested = tests_next inner (field shape vs) faces no_face k (omega (arith, l.six)) l.tested made.tests_are;
-            rest = made.rest ∙ l.rest;
+            same = same_on l.same same;
+            few = group.few;
+            bound = omega (arith, group.bound, l.bound);
+            lists = groups_next quad_numbers numbers_of (group_of was) faces no_face k was.out.now (omega (arith, l.six)) l.lists group.is;
+            counted = counts_next quad_numbers numbers_of (group_of was) faces no_face k 6 counts _ l.six h l.counted (omega (arith, six_more));
+            tested = tests_next was.block.interior (field_of was) faces no_face k (omega (arith, l.six)) l.tested group.tests_are;
+            rest = group.rest ∙ l.rest;
           }
 
-    pub six_done : 6 ≤ k → FacesMeshed vs shape inner faces marks₀ out₀ marks out (record { listed = listed; tests = tests; counts = counts })
+    pub six_done : 6 ≤ k → FacesMeshed was.block.voxels.now was.block.voxels_shape was.block.interior faces was.visited.now was.out.now now.visited.now now.out.now (record { listed = now.listed; tests = now.tests; counts = counts })
     unfolding listed_groups
     six_done h =
         let all : length faces ≤ k = omega (arith, l.six) in
         record {
           made = record {
-            is = l.lists ∙ ap (λ (g : List (List Listed)). pushed_all quad_numbers numbers_of (output out₀ 0) (joined g)) (groups_done (listed_group inner (field shape vs)) faces k all);
-            each = counts_done (listed_group inner (field shape vs)) faces k 6 counts l.six h l.counted;
+            is = l.lists ∙ ap (λ (g : List (List Listed)). pushed_all quad_numbers numbers_of (output was.out.now 0) (joined g)) (groups_done (group_of was) faces k all);
+            each = counts_done (group_of was) faces k 6 counts l.six h l.counted;
           };
-          tests_are = tests_done inner (field shape vs) faces k all l.tested;
+          tests_are = tests_done was.block.interior (field_of was) faces k all l.tested;
           rest = l.rest;
         }
+
+-- The same of buffers that are what those of a mesher were at its end.
+pub faces_left : {vs : List ℕ} {shape : Point} {inner : Extent} {faces : List OrientedBlockFace} {marks₀ out₀ marks out : List ℕ} {r : Meshed} → FacesMeshed vs shape inner faces marks₀ out₀ marks out r
+    → {marks' out' : List ℕ} → marks' ≡ marks → out' ≡ out → FacesMeshed vs shape inner faces marks₀ out₀ marks' out' r
+faces_left h e e' = rw (e, e') h

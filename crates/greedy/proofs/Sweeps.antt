@@ -46,7 +46,7 @@ only g k = let one : k + 1 - k ≡ suc zero = omega arith in rw one (append-nil 
 -- The points of a slice, row by row.
 pub slice_scan : (n : Axis) (e : Extent) (k : ℕ) → scan (slice_at n e k)
     ≡ up_to (along (slower n) e.minimum) (along (slower n) e.bound) (λ (j : ℕ). up_to (along (faster n) e.minimum) (along (faster n) e.bound) (λ (i : ℕ). spot n k j i ∷ []))
-unfolding scan slice_at put along spot
+unfolding scan slice_at put along
 slice_scan X e k = loops_same _ _ _ _ _ _ _ _ _ (λ j _. loops_same _ _ _ _ _ _ _ _ _ (λ i _. only (λ (x : ℕ). at x _ _ ∷ []) k))
 slice_scan Y e k = loops_same _ _ _ _ _ _ _ _ _ (λ j _. only (λ (y : ℕ). up_to e.minimum.x e.bound.x (λ (x : ℕ). at x y _ ∷ [])) k)
 slice_scan Z e k = only (λ (z : ℕ). up_to e.minimum.y e.bound.y (λ (y : ℕ). up_to e.minimum.x e.bound.x (λ (x : ℕ). at x y z ∷ []))) k
@@ -54,7 +54,7 @@ slice_scan Z e k = only (λ (z : ℕ). up_to e.minimum.y e.bound.y (λ (y : ℕ)
 -- Where a point of it lies, by its steps from the minimum,
 pub spot_index : (shape : Point) (n : Axis) (p : Point) (k j i : ℕ)
     → index shape (spot n (along n p + k) (along (slower n) p + j) (along (faster n) p + i)) ≡ index shape p + k * stride shape n + j * stride shape (slower n) + i * stride shape (faster n)
-unfolding spot along stride
+unfolding along stride
 spot_index shape X p k j i = omega (arith, index_at shape p k i j, mul-one k)
 spot_index shape Y p k j i = omega (arith, index_at shape p i k j, mul-one i)
 spot_index shape Z p k j i = omega (arith, index_at shape p i j k, mul-one i)
@@ -62,7 +62,7 @@ spot_index shape Z p k j i = omega (arith, index_at shape p i j k, mul-one i)
 -- and that it lies in the extent.
 pub spot_inside : (n : Axis) (e : Extent) (k j i : ℕ) → k < along n e.bound - along n e.minimum → j < along (slower n) e.bound - along (slower n) e.minimum
     → i < along (faster n) e.bound - along (faster n) e.minimum → Inside e (spot n (along n e.minimum + k) (along (slower n) e.minimum + j) (along (faster n) e.minimum + i))
-unfolding spot along
+unfolding along
 spot_inside X e k j i hk hj hi = inside_at e k i j hk hi hj
 spot_inside Y e k j i hk hj hi = inside_at e i k j hi hk hj
 spot_inside Z e k j i hk hj hi = inside_at e i j k hi hj hk

@@ -1,58 +1,85 @@
--- The walk by indices, as the code makes it: what has passed and what is left make the whole; and the tests that it makes.
+-- The walk by indices, as the code makes it: what passes and what is left make the whole; and the tests of voxels.
 use mathlib.Core.Bool.{Bool, true, false}
 use mathlib.Core.List.{List}
 use mathlib.Core.Path.{◌≡◌, sym, ◌∙◌, ap}
-use Prim.Native.Nat.{ℕ, zero, ◌+◌, ◌-◌, ◌*◌, ◌≤◌, ◌<◌}
-use native.Mathlib.Nat.{add-zero, zero-add, add_assoc, sub-zero, zero-mul, one-mul, add-mul, mul-le-mul_right}
+use Prim.Native.Nat.{ℕ, zero, suc, ◌+◌, ◌-◌, ◌*◌, ◌≤◌, ◌<◌}
+use native.Mathlib.Nat.{add-zero, zero-add, add_assoc, sub-zero, zero-mul, one-mul, suc-mul, mul-le-mul_right}
 use native.Mathlib.Omega.{arith}
 use lib.Dec.{eqb}
 use lib.ListN.{get_or}
 use borrow.Author.Tests.{eq-eqb, ne_eqb}
 use Rattle.geometry.proofs.Refusals.{split}
 use Rattle.voxels.specs.Voxel.{class, shows, uniform}
-use Rattle.voxels.specs.Visible.{offset_index}
+use Rattle.voxels.specs.Visible.{modulus, offset_index}
 use Rattle.voxels.specs.Loop.{step_by}
-use Rattle.voxels.specs.Entered.{most_voxels}
-use Rattle.voxels.proofs.Loops.{more, done, Underway}
+use Rattle.voxels.proofs.Loops.{more, stride_more}
 use Rattle.rules.specs.Merger.{Walked, walk, pick, walked, walked_rows}
 use Rattle.rules.proofs.Walks.{after, after_rows, walk_passes, walk_fails, rows_whole, rows_broken, walked_at_most}
-use Rattle.greedy.specs.Walks.{needs_at, joins_at, Touches, row_at, quad_at, WalkReady, QuadReady}
+use Rattle.greedy.specs.Walks.{needs_at, joins_at, row_at, quad_at, WalkReady, QuadReady}
 
--- A loop that walks, k of most passed.
-module _ {A : Type 0} (ok : A → Bool) (next : A → A) where
-  pub walk_start : (a : A) (most : ℕ) → after 0 (walked ok next a (most - 0)) ≡ walked ok next a most
-  walk_start a most = rw (sub-zero, zero-add, zero-add)
+-- A walk by a stride, of which the first k voxels pass.
+module _ (ok : ℕ → Bool) (d i : ℕ) where
+  abbrev Passed : ℕ → Type 0
+  Passed k = (h : ℕ) → h < k → ok (i + h * d) ≡ true
 
-  pub walk_on : (a : A) (k most : ℕ) (t : Walked) → k < most → ok a ≡ true → after k (walked ok next a (most - k)) ≡ t → after (k + 1) (walked ok next (next a) (most - (k + 1))) ≡ t
-  walk_on a k most t h e l =
-      rw (add_assoc, add_assoc) (rw (more k most h, walk_passes ok next a (most - (k + 1)) e) at l)
+  -- What is left of it comes after them.
+  walk_past : (k most : ℕ) → k ≤ most → Passed k → walked ok (step_by d) i most ≡ after k (walked ok (step_by d) (i + k * d) (most - k))
+  walk_past zero most h passed = rw (zero-mul, add-zero, sub-zero, zero-add, zero-add)
+  walk_past (suc k) most h passed =
+      let before = walk_past k most (omega arith) (λ m l. passed m (omega arith)) in
+      let left : most - k ≡ suc (most - suc k) = omega arith in
+      let place : i + k * d + d ≡ i + suc k * d = omega (arith, suc-mul k d) in
+      let w : Walked = walked ok (step_by d) (i + suc k * d) (most - suc k) in
+      let here : walked ok (step_by d) (i + k * d) (most - k) ≡ after 1 w = rw (left, walk_passes ok (step_by d) (i + k * d) (most - suc k) (passed k (omega arith)), place) in
+      let got : k + (1 + w.got) ≡ suc k + w.got = omega arith in
+      let tests : k + (1 + w.tests) ≡ suc k + w.tests = omega arith in
+      before ∙ rw (here, got, tests)
 
-  pub walk_stops : (a : A) (k most : ℕ) (t : Walked) → k < most → ok a ≡ false → after k (walked ok next a (most - k)) ≡ t → walk k (k + 1) ≡ t
-  walk_stops a k most t h e l = rw add-zero at (rw (more k most h, walk_fails ok next a (most - (k + 1)) e) at l)
+  -- So it ends where one fails,
+  pub walk_stops : (k most : ℕ) → k < most → Passed k → ok (i + k * d) ≡ false → walk k (k + 1) ≡ walked ok (step_by d) i most
+  walk_stops k most h passed fails =
+      let some : most - k ≡ suc (most - (k + 1)) = more k most h in
+      sym (walk_past k most (omega arith) passed ∙ rw (some, walk_fails ok (step_by d) (i + k * d) (most - (k + 1)) fails, add-zero))
 
-  pub walk_done : (a : A) (k most : ℕ) (t : Walked) → most ≤ k → after k (walked ok next a (most - k)) ≡ t → walk k k ≡ t
+  -- or where there are no more.
+  pub walk_done : (k most : ℕ) → most ≤ k → Passed k → walk most most ≡ walked ok (step_by d) i most
   unfolding walked
-  walk_done a k most t h l =
-      let stay : walk k k ≡ after k (walked ok next a zero) = rw add-zero in
-      stay ∙ rw (done k most h) at l
+  walk_done k most h passed =
+      let none : most - most ≡ zero = omega arith in
+      sym (walk_past most most (omega arith) (λ m l. passed m (omega arith)) ∙ rw (none, add-zero))
 
--- A loop over rows, k whole ones of most and t tests so far.
-module _ {A : Type 0} (row : A → Walked) (width : ℕ) (next : A → A) where
-  pub rows_on : (a : A) (k most t : ℕ) (w r : Walked) → k < most → r ≡ row a → r.got ≡ width → after_rows k t (walked_rows row width next a (most - k)) ≡ w
-      → after_rows (k + 1) (t + r.tests) (walked_rows row width next (next a) (most - (k + 1))) ≡ w
-  rows_on a k most t w r h is e l =
-      rw (is, add_assoc, add_assoc) (rw (more k most h, rows_whole row width next a (most - (k + 1)) (ap (λ (x : Walked). x.got) (sym is) ∙ e)) at l)
+-- The walk over the rows a stride apart, from the k-th of most on.
+abbrev pub rows_left : (ℕ → Walked) → ℕ → ℕ → ℕ → ℕ → ℕ → Walked
+rows_left row width d i k most = walked_rows row width (step_by d) (i + k * d) (most - k)
 
-  pub rows_stop : (a : A) (k most t : ℕ) (w r : Walked) → k < most → r ≡ row a → (r.got ≡ width → ⊥) → after_rows k t (walked_rows row width next a (most - k)) ≡ w
-      → walk k (t + r.tests) ≡ w
-  rows_stop a k most t w r h is d l =
-      rw (is) (rw (add-zero) at (rw (more k most h, rows_broken row width next a (most - (k + 1)) (λ e. d (ap (λ (x : Walked). x.got) is ∙ e))) at l))
+-- A loop over them after the first, k whole ones by now: with what is left they make the walk, and each took few tests.
+pub record Rows (row : ℕ → Walked) (width d i most first k tests : ℕ) : Type 0 where
+  pub few : tests ≤ k * modulus
+  pub whole : after_rows k tests (rows_left row width d i k most) ≡ after_rows 1 first (rows_left row width d i 1 most)
 
-  pub rows_done : (a : A) (k most t : ℕ) (w : Walked) → most ≤ k → after_rows k t (walked_rows row width next a (most - k)) ≡ w → walk k t ≡ w
+module _ {row : ℕ → Walked} {width d i most first k t : ℕ} (l : Rows row width d i most first k t) where
+  module _ (r : Walked) (h : k < most) (is : r ≡ row (i + k * d)) where
+    -- A whole row is one more,
+    pub rows_on : r.got ≡ width → r.tests < modulus → Rows row width d i most first (k + 1) (t + r.tests)
+    rows_on e small =
+        let place : i + k * d + d ≡ i + (k + 1) * d = omega (arith, stride_more k d) in
+        record {
+          few = omega (arith, l.few);
+          whole = rw (is, add_assoc, add_assoc) (rw (more k most h, rows_whole row width (step_by d) (i + k * d) (most - (k + 1)) (ap (λ (x : Walked). x.got) (sym is) ∙ e), place) at l.whole);
+        }
+
+    -- another ends the walk,
+    pub rows_stop : (r.got ≡ width → ⊥) → walk k (t + r.tests) ≡ after_rows 1 first (rows_left row width d i 1 most)
+    rows_stop other =
+        rw is (rw (add-zero) at (rw (more k most h, rows_broken row width (step_by d) (i + k * d) (most - (k + 1)) (λ e. other (ap (λ (x : Walked). x.got) is ∙ e))) at l.whole))
+
+  -- and so does the last.
+  pub rows_done : k ≡ most → walk most t ≡ after_rows 1 first (rows_left row width d i 1 most)
   unfolding walked_rows
-  rows_done a k most t w h l =
-      let stay : walk k t ≡ after_rows k t (walked_rows row width next a zero) = rw (add-zero, add-zero) in
-      stay ∙ rw (done k most h) at l
+  rows_done e =
+      let none : most - k ≡ zero = omega arith in
+      let stay : walk k t ≡ after_rows k t (walked_rows row width (step_by d) (i + k * d) zero) = rw (add-zero, add-zero) in
+      rw e at (stay ∙ rw none at l.whole)
 
 -- ---- tests
 
@@ -88,10 +115,6 @@ pub row_at_most : (vs marks : List ℕ) (off first d most i : ℕ) {w : Walked} 
 unfolding row_at
 row_at_most vs marks off first d most i e = rw e (walked_at_most (joins_at vs marks off first) (step_by d) most i)
 
--- In a loop over a row's voxels, what the test of the next one reads was lent.
-pub touches_at : {vn mn off i d most : ℕ} → WalkReady vn mn off i d most → {k j : ℕ} → Underway d i most k j → k < most → Touches vn mn off j
-touches_at ready {k} l h = rw l.place (ready.each k h)
-
 -- Part of a row is ready where the row is.
 pub row_less : {vn mn off i d : ℕ} (m n : ℕ) → m ≤ n → WalkReady vn mn off i d n → WalkReady vn mn off i d m
 row_less {d = d} m n le l = record { each = λ k lt. l.each k (omega arith); last = omega (arith, l.last, mul-le-mul_right {m = m} {n = n} d le) }
@@ -101,33 +124,16 @@ module _ (vn mn off i du wide dv high : ℕ) (ready : QuadReady vn mn off i du w
   pub first_row : WalkReady vn mn off i du wide
   first_row = rw (zero-mul, add-zero) at (ready.each 0 ready.high_some)
 
-  pub first_voxel : i < vn
-  first_voxel = rw (zero-mul, add-zero) at (first_row.each 0 ready.wide_some).here
-
-  pub first_step : i + dv ≤ 2 * most_voxels
-  first_step = omega (arith, ready.last, one-mul dv, mul-le-mul_right {m = 1} {n = high} dv ready.high_some)
-
-  -- and so is each after it, in part.
-  pub next_row : (w k j : ℕ) → w ≤ wide → k < high - 1 → Underway dv (i + dv) (high - 1) k j → WalkReady vn mn off j du w
-  next_row w k j le h l =
-      let at_j : i + (k + 1) * dv ≡ j = omega (arith, l.place, add-mul k 1 dv, one-mul dv) in
-      row_less w wide le (rw at_j at (ready.each (k + 1) (omega arith)))
-
-  -- The index at the end of the rows fits.
-  pub rows_last : i + dv + (high - 1) * dv ≤ 2 * most_voxels
-  rows_last = omega (arith, ready.last, whole (high - 1) dv high (omega (arith, ready.high_some)))
-    where
-      whole : (m d n : ℕ) → n ≡ m + 1 → i + d + m * d ≡ i + n * d
-      whole m d n e = omega (arith, add-mul m 1 d, one-mul d, ap (λ (k : ℕ). k * d) e)
+  -- and so is each row, in part.
+  pub next_row : (w k : ℕ) → w ≤ wide → k < high → WalkReady vn mn off (i + k * dv) du w
+  next_row w k le h = row_less w wide le (ready.each k h)
 
 -- The rectangle from its first row and the rows after it.
 pub quad_from_lem : (vs marks : List ℕ) (off du dv wide high i : ℕ) (w : Walked) (k t : ℕ)
     → w ≡ row_at vs marks off (get_or vs i 0) du wide i
-    → walk k t ≡ after_rows 0 w.tests (walked_rows (row_at vs marks off (get_or vs i 0) du w.got) w.got (step_by dv) (i + dv) (high - 1))
-    → pick w.got (k + 1) t ≡ quad_at vs marks off du dv wide high i
+    → walk k t ≡ after_rows 1 w.tests (rows_left (row_at vs marks off (get_or vs i 0) du w.got) w.got dv i 1 high)
+    → pick w.got k t ≡ quad_at vs marks off du dv wide high i
 unfolding quad_at
-quad_from_lem vs marks off du dv wide high i w k t is e =
-    let h : Walked = walked_rows (row_at vs marks off (get_or vs i 0) du w.got) w.got (step_by dv) (i + dv) (high - 1) in
-    let up : k + 1 ≡ 1 + h.got = omega (arith, ap (λ (x : Walked). x.got) e) in
-    let tests : t ≡ w.tests + h.tests = ap (λ (x : Walked). x.tests) e in
-    rw (← is, up, tests)
+quad_from_lem vs marks off du dv wide high i w k t is at_one =
+    let e = rw one-mul at at_one in
+    rw (← is, ap (λ (x : Walked). x.got) e, ap (λ (x : Walked). x.tests) e)

@@ -13,8 +13,7 @@ use Rattle.listing.specs.Listing.{joined, capacity}
 use Rattle.listing.specs.Cut.{items_in, groups_in, Matched, first_of}
 use Rattle.rules.specs.Greedy.{greedy_group, greedy_groups, greedy_tests}
 use Rattle.rules.specs.Demand.{Cover, Areas, Tests, Uniform, Consistent}
-use Rattle.greedy.specs.declared.GreedyAnswer.{GreedyAnswer}
-use Rattle.greedy.specs.Greedy.{quad_numbers}
+use Rattle.greedy.specs.Greedy.{quad_numbers, GreedyAnswer}
 
 -- The quad of an output's first numbers: minimum x, y, z, width, height. (`get_or`'s last argument is what stands past the end of the list.)
 unfoldable pub quad_from : List ℕ → UnorientedQuad

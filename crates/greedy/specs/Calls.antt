@@ -4,7 +4,7 @@ use Rattle.std.specs.Prelude.{List, [], ◌∷◌, map, ◌≡◌, ℕ, ◌-◌,
 use Rattle.geometry.specs.declared.quad.UnorientedQuad.{UnorientedQuad}
 use Rattle.geometry.specs.Point.{Point, at}
 use Rattle.voxels.specs.Shape.{size}
-use Rattle.listing.specs.declared.MeshAnswer.{MeshAnswer}
+use Rattle.listing.specs.Outcome.{MeshAnswer}
 use Rattle.listing.specs.Listing.{joined}
 use Rattle.rules.specs.Table.{O, T, Placed, placed, block, quad, six_faces}
 use Rattle.greedy.specs.Greedy.{listed, quad_numbers, numbers_of, GreedyOutcome, greedy_quads}

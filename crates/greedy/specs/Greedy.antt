@@ -2,7 +2,7 @@
 use Rattle.std.specs.Prelude.{List, [], ◌∷◌, map, ℕ, length, replicate}
 use Rattle.geometry.specs.declared.quad.UnorientedQuad.{UnorientedQuad}
 use Rattle.geometry.specs.declared.face.OrientedBlockFace.{OrientedBlockFace}
-use Rattle.geometry.specs.Refusal.{Answer, checked}
+use Rattle.geometry.specs.Refusal.{Answer, accepted, refused, checked}
 use Rattle.geometry.specs.Point.{Point}
 use Rattle.voxels.specs.declared.extent.Extent.{Extent}
 use Rattle.voxels.specs.Shape.{size, Field, field}
@@ -10,9 +10,9 @@ use Rattle.voxels.specs.Extent.{interior}
 use Rattle.voxels.specs.Checks.{greedy_checks}
 use Rattle.listing.specs.Listing.{overwritten, Laid, at_exit}
 use Rattle.listing.specs.Outcome as listing
-use Rattle.listing.specs.Outcome.{reported, listed_after, MeshOutcome, listed_outcome}
+use Rattle.listing.specs.Outcome.{MeshAnswer, mesh_answer, reported, listed_after, MeshOutcome, listed_outcome}
 use Rattle.rules.specs.Greedy.{greedy_group, greedy_tests}
-use Rattle.greedy.specs.declared.GreedyAnswer.{GreedyAnswer}
+use Rattle.greedy.specs.declared.GreedyMesh.{GreedyMesh}
 
 -- ---- what is listed
 
@@ -43,6 +43,16 @@ unfoldable pub listed_groups : Extent → Field → List OrientedBlockFace → L
 listed_groups inner v faces = map (listed_group inner v) faces
 
 -- ---- the outcome
+
+-- Document 01's answer: what every mesher answers, and "for greedy, the tests summed over the six faces"; 0 where the call was refused.
+pub record GreedyAnswer : Type 0 where
+  pub mesh : MeshAnswer
+  pub tests : ℕ
+
+-- The answer of a report or a refusal: "A refusal gives zeros for all counts", and the tests are zero then too.
+abbrev pub greedy_answer : Answer GreedyMesh → GreedyAnswer
+greedy_answer (accepted m) = record { mesh = mesh_answer (accepted m.counts); tests = m.tests }
+greedy_answer (refused n p) = record { mesh = mesh_answer (refused n p); tests = 0 }
 
 -- All that a call leaves: what every mesher leaves, the tests, and the visited bytes at exit.
 pub record GreedyOutcome : Type 0 where

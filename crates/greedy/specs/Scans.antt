@@ -1,7 +1,8 @@
 -- For src/lib.rt: the scan of a face by indices, and what its functions ask for and promise, from where a call stands to where it has come. That the scan makes the rule's group is `group_same` (proofs/Sweeps.antt).
-use Rattle.std.specs.Prelude.{true, false, List, ◌≡◌, ℕ, ◌+◌, ◌-◌, ◌*◌, ◌≤◌, drop}
+use Rattle.std.specs.Prelude.{true, false, List, ◌≡◌, ℕ, ◌+◌, ◌-◌, ◌*◌, ◌≤◌, drop, length}
 use Rattle.geometry.specs.declared.axis.Axis.{Axis}
 use Rattle.geometry.specs.declared.face.OrientedBlockFace.{OrientedBlockFace}
+use Rattle.geometry.specs.declared.quad.UnorientedQuad.{UnorientedQuad}
 use Rattle.geometry.specs.Point.{Point, along}
 use Rattle.voxels.specs.Shape.{size, field}
 use Rattle.voxels.specs.Visible.{modulus}
@@ -17,7 +18,7 @@ use Rattle.greedy.specs.Spans.{spot}
 use Rattle.voxels.specs.declared.extent.Extent.{Extent}
 use Rattle.greedy.specs.declared.face_scan.Span.{Span}
 use Rattle.greedy.specs.declared.face_scan.FaceScan.{FaceScan}
-use Rattle.greedy.specs.declared.Progress.{Progress}
+use Rattle.greedy.specs.declared.Mesher.{Mesher}
 use Rattle.greedy.specs.declared.Meshed.{Meshed}
 
 -- What a scan has made: the visited bytes, the output, and the tests.
@@ -26,9 +27,21 @@ pub record Scanned : Type 0 where
   pub output : Output
   pub tests : ℕ
 
--- The same from the code's two buffers and its two numbers.
-abbrev pub progress : List ℕ → List ℕ → Progress → Scanned
-progress marks out p = record { marks = marks; output = output out p.listed; tests = p.tests }
+-- The same of a mesher: how far it is.
+abbrev pub progress : Mesher → Scanned
+progress m = record { marks = m.visited.now; output = output m.out.now m.listed; tests = m.tests }
+
+-- With one quad more listed.
+abbrev pub listed_on : Scanned → UnorientedQuad → Scanned
+listed_on s q = record { marks = s.marks; output = pushed quad_numbers numbers_of s.output (listed q); tests = s.tests }
+
+-- A mesher is still at the same call: its block is what it was, and it has the buffers that it had, as long as they were.
+pub record SameCall (was now : Mesher) : Type 0 where
+  pub block : now.block ≡ was.block
+  pub visited : now.visited.ghost_name ≡ was.visited.ghost_name
+  pub out : now.out.ghost_name ≡ was.out.ghost_name
+  pub marks_long : length now.visited.now ≡ length was.visited.now
+  pub out_long : length now.out.now ≡ length was.out.now
 
 -- ---- what is scanned, by indices
 
@@ -40,7 +53,7 @@ room_to a bound p = along a bound - along a p
 unfoldable pub laid_by : FaceScan → Scanned → Point → ℕ → Pick → Scanned
 laid_by c s p i q =
     record {
-      marks = mark_quad_at c.u_stride.0 q.width c.v_stride.0 q.height s.marks i;
+      marks = mark_quad_at c.strides.u_stride.0 q.width c.strides.v_stride.0 q.height s.marks i;
       output = pushed quad_numbers numbers_of s.output (listed (quad_of p q));
       tests = s.tests + 1 + q.tests;
     }
@@ -48,12 +61,12 @@ laid_by c s p i q =
 -- That of the walk is.
 unfoldable pub laid_at : List ℕ → FaceScan → Scanned → Point → ℕ → Scanned
 laid_at voxels c s p i =
-    laid_by c s p i (quad_at voxels s.marks c.visibility_offset.0 c.u_stride.0 c.v_stride.0 (room_to c.axes.u c.bound p) (room_to c.axes.v c.bound p) i)
+    laid_by c s p i (quad_at voxels s.marks c.strides.visibility_offset.0 c.strides.u_stride.0 c.strides.v_stride.0 (room_to c.axes.u c.bound p) (room_to c.axes.v c.bound p) i)
 
 -- A voxel is scanned.
 unfoldable pub scanned_at : List ℕ → FaceScan → Scanned → Point → ℕ → Scanned
 scanned_at voxels c s p i =
-    elim (needs_at voxels s.marks c.visibility_offset.0 i) [
+    elim (needs_at voxels s.marks c.strides.visibility_offset.0 i) [
       | false ↦ record { marks = s.marks; output = s.output; tests = s.tests + 1 }
       | true ↦ laid_at voxels c s p i
     ]
@@ -78,7 +91,7 @@ slices_along voxels c s i = over c.slices (slice_along voxels c) s i
 
 -- What the scan of a voxel asks for: all that its rectangle may read was lent, and the rectangle is small.
 pub record SpotReady (voxels marks : ℕ) (c : FaceScan) (p : Point) (i : ℕ) : Type 0 where
-  pub quad : QuadReady voxels marks c.visibility_offset.0 i c.u_stride.0 (room_to c.axes.u c.bound p) c.v_stride.0 (room_to c.axes.v c.bound p)
+  pub quad : QuadReady voxels marks c.strides.visibility_offset.0 i c.strides.u_stride.0 (room_to c.axes.u c.bound p) c.strides.v_stride.0 (room_to c.axes.v c.bound p)
   pub wide_short : room_to c.axes.u c.bound p ≤ longest
   pub high_short : room_to c.axes.v c.bound p ≤ longest
 
@@ -118,11 +131,11 @@ face_tests c = c.slices.count * slice_tests c
 abbrev pub ample_tests : ℕ
 ample_tests = 64 * most_voxels * voxel_tests
 
--- A call that stands here has listed no more quads than it has made tests, and can make so many tests more.
+-- A call that stands here has listed no more quads than it has made tests, and can make so many tests more. (How many differs from function to function: no invariant of a mesher says it.)
 abbrev pub RoomFor : ℕ → Scanned → Type 0
 RoomFor most s = (s.output.listed ≤ s.tests) × (s.tests + most ≤ ample_tests)
 
--- What an accepted call goes by: its box passed the entry checks, and so many visited bytes were lent.
+-- What an accepted call goes by: its box passed the entry checks, and so many visited bytes were lent. (`Entered` names the box, which its interior does not determine: a ghost field takes no such fact.)
 pub record Accepted (voxels marks : ℕ) (shape : Point) (inner : Extent) : Type 0 where
   pub entered : Entered voxels shape inner
   pub marked : size shape ≤ marks

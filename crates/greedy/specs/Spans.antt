@@ -24,7 +24,7 @@ slower Y = Z
 slower Z = Y
 
 -- A point from its coordinates on an axis n, on the slower of the other two, and on the faster.
-unfoldable pub spot : Axis → ℕ → ℕ → ℕ → Point
+abbrev pub spot : Axis → ℕ → ℕ → ℕ → Point
 spot X k j i = at k i j
 spot Y k j i = at i k j
 spot Z k j i = at i j k
@@ -49,9 +49,11 @@ side_offset shape f = visibility_offset (positive f.n_sign) (stride shape (n_axi
 unfoldable pub face_scan : Point → Extent → OrientedBlockFace → FaceScan
 face_scan shape inner f = record {
   axes = axes_of f.permutation;
-  visibility_offset = record { 0 = side_offset shape f };
-  u_stride = record { 0 = u_stride shape f };
-  v_stride = record { 0 = v_stride shape f };
+  strides = record {
+    u_stride = record { 0 = u_stride shape f };
+    v_stride = record { 0 = v_stride shape f };
+    visibility_offset = record { 0 = side_offset shape f };
+  };
   bound = inner.bound;
   slices = span_of shape inner (n_axis f);
   rows = span_of shape inner (slower (n_axis f));

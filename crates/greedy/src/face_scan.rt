@@ -18,15 +18,21 @@ pub(crate) struct Span {
     pub stride: Stride,
 }
 
-// What the scan of a face goes by: the Rust's `FaceStrides`, where the interior ends, and the loops
+// The Rust's `FaceStrides`, but for the stride along n, which the scan has.
+#[derive(Clone, Copy)]
+pub(crate) struct FaceStrides {
+    pub u_stride: Stride,
+    pub v_stride: Stride,
+    // The offset to the voxel that shares the face.
+    pub visibility_offset: Stride,
+}
+
+// What the scan of a face goes by: the face's axes and strides, where the interior ends, and the loops
 // over slices, rows and the voxels of a row.
 #[derive(Clone, Copy)]
 pub(crate) struct FaceScan {
     pub axes: Axes,
-    // The offset to the voxel that shares the face.
-    pub visibility_offset: Stride,
-    pub u_stride: Stride,
-    pub v_stride: Stride,
+    pub strides: FaceStrides,
     pub bound: UVec3,
     // Along n.
     pub slices: Span,
@@ -87,16 +93,12 @@ impl Span {
         requires { Interior voxels_shape interior }
         ensures { result ≡ rule.span_of voxels_shape interior axis }
     {
-        let minimum = interior.minimum;
-        let bound = interior.bound;
-        let start = axis.coordinate(minimum);
-        let end = axis.coordinate(bound);
-        let count = end - start;
-        let stride = Stride::new(voxels_shape, axis);
+        let start = axis.coordinate(interior.minimum);
+        let end = axis.coordinate(interior.bound);
         Span {
             start,
-            count,
-            stride,
+            count: end - start,
+            stride: Stride::new(voxels_shape, axis),
         }
     }
 }
@@ -109,26 +111,20 @@ impl FaceScan {
     {
         let permutation = face.permutation;
         let axes = permutation.axes();
-        let n = axes.n;
-        let u = axes.u;
-        let v = axes.v;
+        let Axes { n, u, v } = axes;
         let n_stride = Stride::new(voxels_shape, n);
-        let u_stride = Stride::new(voxels_shape, u);
-        let v_stride = Stride::new(voxels_shape, v);
-        let visibility_offset = Stride::visibility_offset(face, n_stride);
-        let bound = interior.bound;
-        let slices = Span::new(voxels_shape, interior, n);
-        let rows = Span::new(voxels_shape, interior, slower(n));
-        let row = Span::new(voxels_shape, interior, faster(n));
+        let strides = FaceStrides {
+            u_stride: Stride::new(voxels_shape, u),
+            v_stride: Stride::new(voxels_shape, v),
+            visibility_offset: Stride::visibility_offset(face, n_stride),
+        };
         FaceScan {
             axes,
-            visibility_offset,
-            u_stride,
-            v_stride,
-            bound,
-            slices,
-            rows,
-            row,
+            strides,
+            bound: interior.bound,
+            slices: Span::new(voxels_shape, interior, n),
+            rows: Span::new(voxels_shape, interior, slower(n)),
+            row: Span::new(voxels_shape, interior, faster(n)),
         }
     }
 }

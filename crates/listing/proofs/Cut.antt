@@ -10,9 +10,8 @@ use lib.Seq.{drop_at, length-take-le, take_all}
 use borrow.Author.Tests.{ltb-true, ltb-false}
 use Rattle.geometry.specs.Lists.{Each}
 use Rattle.geometry.proofs.Refusals.{split}
-use Rattle.listing.specs.declared.MeshAnswer.{MeshAnswer}
 use Rattle.listing.specs.Listing.{joined, overwritten, capacity, lay}
-use Rattle.listing.specs.Outcome.{mesh_answer}
+use Rattle.listing.specs.Outcome.{MeshAnswer, mesh_answer}
 use Rattle.listing.specs.Cut.{items_in, groups_in, Matched, first_of}
 use Rattle.listing.proofs.Pushed.{lay_many, lay_fits}
 

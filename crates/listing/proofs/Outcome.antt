@@ -7,13 +7,24 @@ use lib.Dec.{ltb}
 use lib.ListN.{length}
 use borrow.Author.Tests.{ltb-true, ltb-false}
 use Rattle.geometry.specs.Refusal.{Answer, accepted, refused, answer, follow}
+use Rattle.std.specs.declared.result.Result.{Result}
+use Rattle.std.specs.declared.result.Result.TheVariants.{Ok, Err}
+use Rattle.geometry.specs.declared.refusal.Refusal.{Refusal}
+use Rattle.geometry.specs.Answers.{meaning}
+use Rattle.geometry.proofs.One.{number_some, refusal_one}
 use Rattle.geometry.proofs.Refusals.{split}
-use Rattle.listing.specs.declared.MeshAnswer.{MeshAnswer}
 use Rattle.listing.specs.Listing.{joined, capacity, too_many, lay}
 use Rattle.listing.specs.Pushed.{MadeGroups}
-use Rattle.listing.specs.Outcome.{mesh_answer, reported, listed_after, outcome, listed_outcome}
+use Rattle.listing.specs.Outcome.{MeshAnswer, mesh_answer, reported, listed_after, outcome, listed_outcome}
 use Rattle.listing.proofs.Pushed.{lay_many, lay_fits}
 use Rattle.listing.proofs.Groups.{laid_out, laid_answer}
+
+-- Results that give one answer are one: no refusal has the number of an accepted call.
+pub mesh_one : (r r' : Result (List ℕ) Refusal) → mesh_answer (meaning r) ≡ mesh_answer (meaning r') → r ≡ r'
+mesh_one (Ok a) (Ok b) e = ap Ok (ap (λ (m : MeshAnswer). m.counts) e)
+mesh_one (Ok a) (Err d) e = absurd (number_some d.reason (sym (ap (λ (m : MeshAnswer). m.refusal) e)))
+mesh_one (Err d) (Ok b) e = absurd (number_some d.reason (ap (λ (m : MeshAnswer). m.refusal) e))
+mesh_one (Err d) (Err d') e = ap Err (refusal_one d d' (ap (λ (m : MeshAnswer). m.refusal) e) (ap (λ (m : MeshAnswer). m.place) e))
 
 -- The answer to groups that were made.
 pub made_outcome : {A : Type 0} (numbers : ℕ) (numbers_of : A → List ℕ) → 0 < numbers → ((a : A) → length (numbers_of a) ≡ numbers)

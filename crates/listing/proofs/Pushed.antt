@@ -5,7 +5,9 @@ use Prim.Native.Nat.{ℕ, zero, suc, ◌+◌, ◌*◌, ◌/◌, ◌≤◌, ◌<�
 use native.Mathlib.Nat.{div-mul-le_self, mul-le-mul_right, add-zero, zero-add, suc-add, add-mul, one-mul, zero-mul, suc-mul, not-suc-le-zero, mul-add-div_right, div-eq_of_lt, div-eq-sub-div, le-div_iff_mul-le}
 use native.Mathlib.Omega.{arith}
 use lib.Dec.{leb, ltb}
-use lib.ListN.{length, get_or, length-append, length-drop, take, drop, set, length-set}
+use lib.ListN.{length, get_or, length-append, length-drop, take, drop, set, length-set, take-append-drop}
+use lib.Seq.{length-take-le}
+use borrow.Rule.Slice.PartMut.{put_mid}
 use borrow.Author.Tests.{lt-ltb, le-ltb, leb-true, leb-false, ltb-true, ltb-false}
 use Rattle.geometry.specs.Refusal.{accepted, refused, answer}
 use Rattle.geometry.proofs.Refusals.{split, applies, passes}
@@ -67,6 +69,14 @@ pub set_all_length : (xs out : List ℕ) (at : ℕ) → length (set_all out at x
 unfolding set_all
 set_all_length [] out at = refl
 set_all_length (x ∷ xs) out at = set_all_length xs (set out at x) (at + 1) ∙ length-set out at x
+
+-- Numbers written over the part where they come to stand are set there.
+pub set_part : (out : List ℕ) (at k : ℕ) {now xs : List ℕ} → now ≡ xs → k ≡ length xs → at + length xs ≤ length out → put_mid at k out now ≡ set_all out at xs
+unfolding overwritten
+set_part out at k {now} {xs} is many h =
+    let before : length (take at out) ≡ at = length-take-le at out (omega arith) in
+    let fits : length xs ≤ length (drop at out) = rw (length-drop at out) (omega arith) in
+    rw (is, many) (sym (rw (take-append-drop at out, before) at (set_all_after xs (take at out) (drop at out) fits)))
 
 -- ---- an item
 

@@ -4,18 +4,14 @@ use contract.Lifetimes
 use borrow.Fn.World
 use borrow.Fn.Kinds
 use denote.Triple.Clauses
-use Rattle.geometry.proofs.One.{One}
-use Rattle.listing.proofs.refused.Reads as refused
+use Rattle.geometry.proofs.One.{One, meaning_one}
 use Rattle.listing.proofs.answered.Reads as answered
 use Rattle.listing.specs.contracts.push
 use Rattle.listing.proofs.push.Kinds as push-kinds
 use Rattle.listing.proofs.push.Reads as push-reads
 
-pub refused_unique : One refused.Post
-refused_unique κs a r r' s s' p q = p ∙ sym q
-
 pub answered_unique : One answered.Post
-answered_unique κs a r r' s s' p q = p ∙ sym q
+answered_unique κs a r r' s s' p q = meaning_one r r' (p ∙ sym q)
 
 -- Its outcome is the output at exit.
 pub push_unique : (κs : Lifetimes.Lfts 2) (a : World.ArgsD push.signature κs) (r r' : World.ResD push.signature κs)

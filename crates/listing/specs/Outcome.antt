@@ -1,11 +1,16 @@
 -- What a mesher's call answers and leaves: document 01, 'Refusal numbers', what stands below the table. All meshers share it: the answer has the refusal, its place and the six counts, and what a mesher reports besides, such
--- as the tests, stands beside it.
+-- as the tests, stands beside it. In the code a mesher gives a `Result`, whose value is the counts: what it means (geometry's `meaning`) is made the answer here (`mesh_answer`).
 use Rattle.std.specs.Prelude.{List, ℕ, replicate}
 use Rattle.geometry.specs.Refusal.{Answer, accepted, refused, follow}
-use Rattle.listing.specs.declared.MeshAnswer.{MeshAnswer}
 use Rattle.listing.specs.Listing.{Laid, lay, at_exit}
 
--- Document 01's answer as the struct that a mesher gives: "A refusal gives zeros for all counts."
+-- Document 01's answer: the refusal number, or 0 where the call was accepted; its place, or 0; and how many quads each of the six groups has.
+pub record MeshAnswer : Type 0 where
+  pub refusal : ℕ
+  pub place : ℕ
+  pub counts : List ℕ
+
+-- The answer of the counts or a refusal: "A refusal gives zeros for all counts."
 abbrev pub mesh_answer : Answer (List ℕ) → MeshAnswer
 mesh_answer (accepted counts) = record { refusal = 0; place = 0; counts = counts }
 mesh_answer (refused n p) = record { refusal = n; place = p; counts = replicate 6 0 }

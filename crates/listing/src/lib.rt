@@ -4,53 +4,26 @@
 #![tactic(auto)]
 
 ghost use Rattle.std.specs.Prelude.{◌≡◌};
-ghost use Rattle.geometry.specs.Refusal as refusal;
+ghost use Rattle.geometry.specs.Refusal.{answer};
+ghost use Rattle.geometry.specs.Answers.{meaning};
 ghost use Rattle.listing.specs.Listing.{too_many};
 ghost use Rattle.listing.specs.Pushed.{put};
-ghost use Rattle.listing.specs.Outcome.{mesh_answer};
 
-// Refusal 9: more quads than the output holds.
-pub const MANY_QUADS: u32 = 9;
+use geometry::refusal::{Reason, Refusal};
 
-// What a mesher answers. What it reports besides stands beside this in an answer of its own.
-#[derive(Clone, Copy)]
-pub struct MeshAnswer {
-    // The refusal number, or 0 where the call was accepted.
-    pub refusal: u32,
-    // The refusal's place, or 0.
-    pub place: u64,
-    // How many quads each of the six groups has. All are 0 where the call was refused.
-    pub counts: [u64; 6],
-}
-
-// A refused call's answer.
-pub fn refused(number: u32, place: u64) -> MeshAnswer
-    ensures { result ≡ mesh_answer (refusal.refused number place) }
-{
-    let counts = [0u64; 6];
-    MeshAnswer {
-        refusal: number,
-        place,
-        counts,
-    }
-}
-
-// The answer of a call that listed so many items: their groups' counts, or 9 where there are more than
-// the output holds.
-pub fn answered(listed: usize, capacity: usize, counts: [u64; 6]) -> MeshAnswer
-    ensures { result ≡ mesh_answer (refusal.answer (too_many listed capacity) counts) }
+// The answer of a call that listed so many items: how many each of its six groups has, or 9 where there
+// are more than the output holds.
+pub fn answered(listed: usize, capacity: usize, counts: [u64; 6]) -> Result<[u64; 6], Refusal>
+    ensures { meaning result ≡ answer (too_many listed capacity) counts }
 {
     if capacity < listed {
-        return refused(MANY_QUADS, capacity as u64);
+        return Err(Reason::ManyQuads.at(capacity as u64));
     }
-    MeshAnswer {
-        refusal: 0,
-        place: 0,
-        counts,
-    }
+    Ok(counts)
 }
 
-// Lists an item after so many of as many numbers: it is written where there is room for all of it.
+// Lists an item after so many of as many numbers: it is written where there is room for all of it. How many
+// are listed is counted past what fits, so that the length of no slice or Vec can stand for it.
 pub fn push(out: &mut [u32], listed: usize, item: &[u32])
     ensures { out.new ≡ put out.old listed item.now }
 {
@@ -62,10 +35,6 @@ pub fn push(out: &mut [u32], listed: usize, item: &[u32])
         return;
     }
     let start = listed * numbers;
-    let mut k: usize = 0;
-    while k < numbers {
-        let at = start + k;
-        out[at] = item[k];
-        k += 1;
-    }
+    let end = start + numbers;
+    out[start..end].copy_from_slice(item);
 }

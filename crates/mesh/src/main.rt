@@ -13,139 +13,91 @@
 mod block;
 mod say;
 mod show;
-mod space;
 mod words;
 
-use geometry::axis::SignedAxis;
 use geometry::face::OrientedBlockFace;
-use geometry::refusal::CheckAnswer;
-use greedy::{GreedyAnswer, QUAD_NUMBERS};
-use listing::MeshAnswer;
+use greedy::QUAD_NUMBERS;
+use say::{Failure, Wrong};
+use show::FACES;
 use std::io;
-use voxels::bounds;
-use words::Job;
+use std::rt::Env;
+use words::{Form, Job};
 
-// The six faces of a cube, in the order of `show::face`.
+// The most quads that this command lists.
+const MOST_QUADS: usize = 131072;
+
+// How many numbers a unit quad has.
+const UNIT_NUMBERS: usize = 3;
+
+// The most bytes of OBJ text that this command writes.
+const MOST_TEXT: usize = 3000000;
+
+// The six faces of a cube.
 fn cube() -> [OrientedBlockFace; 6] {
-    [
-        OrientedBlockFace::canonical(SignedAxis::PosX),
-        OrientedBlockFace::canonical(SignedAxis::NegX),
-        OrientedBlockFace::canonical(SignedAxis::PosY),
-        OrientedBlockFace::canonical(SignedAxis::NegY),
-        OrientedBlockFace::canonical(SignedAxis::PosZ),
-        OrientedBlockFace::canonical(SignedAxis::NegZ),
-    ]
+    FACES.map(OrientedBlockFace::canonical)
 }
 
-// Prints the quads that were meshed, so many numbers each, and how many each face has. Where the block
-// was refused it says so instead, and answers false.
-fn listed(
-    rt: &impl Print,
-    err: &impl Print,
-    mesh: MeshAnswer,
-    out: &[u32],
-    numbers: usize,
-) -> io::Result<bool> {
-    if say::refused(err, mesh.refusal, mesh.place)? {
-        return Ok(false);
-    }
-    let counts = mesh.counts;
-    show::groups(rt, out, numbers, counts)?;
-    show::counts(rt, counts)?;
-    Ok(true)
-}
-
-// Prints the greedy quads that were meshed as OBJ text, of at most 3,000,000 bytes. Where the block or
-// the text was refused it says so instead, and so it does where the text could not be written.
-fn write_obj(rt: &impl Print, err: &impl Print, mesh: MeshAnswer, quads: &[u32]) -> io::Result<()> {
-    if say::refused(err, mesh.refusal, mesh.place)? {
-        return Ok(());
-    }
-    let mut room = space::text();
-    let out: &mut [u8] = &mut room;
-    let counts = mesh.counts;
-    let answer = obj::write_obj(cube(), counts, quads, out);
-    if say::refused(err, answer.refusal, answer.place)? {
-        return Ok(());
-    }
-    if show::write_part(rt, out, answer.written as usize).is_err() {
-        say::text(
-            err,
-            b"mesh: the OBJ text could not be written, or not all of it\n",
-        )?;
-    }
+// Meshes unit quads, and prints them.
+fn mesh_unit<R: Print + AllocGlobal>(rt: &R, job: Job, voxels: &[u16]) -> Result<(), Failure> {
+    let mut quads = vec![in rt.alloc(); 0u32; MOST_QUADS * UNIT_NUMBERS]?;
+    let counts = simple::visible_block_faces(
+        voxels,
+        job.shape,
+        job.min,
+        job.max,
+        cube(),
+        &mut quads,
+    )?;
+    show::mesh(rt, quads.as_chunks::<UNIT_NUMBERS>().0, counts, None)?;
     Ok(())
 }
 
-// Meshes unit quads: at most 131,072 of them, three numbers each.
-fn mesh_unit(rt: &impl Print, err: &impl Print, job: Job, voxels: &[u16]) -> io::Result<()> {
-    let mut room = space::unit_quads();
-    let out: &mut [u32] = &mut room;
-    let shape = job.shape;
-    let min = job.min;
-    let max = job.max;
-    let answer = simple::visible_block_faces(voxels, shape, min, max, cube(), out);
-    if listed(rt, err, answer, out, 3)? {
-        show::end(rt)?;
+// Meshes greedy quads, and prints them as lines or as OBJ text.
+fn mesh_greedy<R: Print + AllocGlobal>(rt: &R, job: Job, voxels: &[u16]) -> Result<(), Failure> {
+    let mut quads = vec![in rt.alloc(); 0u32; MOST_QUADS * QUAD_NUMBERS]?;
+    let mut visited = vec![in rt.alloc(); 0u8; voxels.len()]?;
+    let mesh = greedy::greedy_quads(
+        voxels,
+        job.shape,
+        job.min,
+        job.max,
+        cube(),
+        &mut visited,
+        &mut quads,
+    )?;
+    if let Form::Obj = job.form {
+        return write_obj(rt, mesh.counts, &quads);
     }
+    let quads = quads.as_chunks::<QUAD_NUMBERS>().0;
+    show::mesh(rt, quads, mesh.counts, Some(mesh.tests))?;
     Ok(())
 }
 
-// Greedy meshing. The marks are needed no longer than this.
-fn greedy_quads(job: Job, voxels: &[u16], out: &mut [u32]) -> GreedyAnswer {
-    let mut marks = space::visited();
-    let visited: &mut [u8] = &mut marks;
-    let shape = job.shape;
-    let min = job.min;
-    let max = job.max;
-    greedy::greedy_quads(voxels, shape, min, max, cube(), visited, out)
-}
-
-// Meshes greedy quads: at most 131,072 of them, five numbers each.
-fn mesh_greedy(rt: &impl Print, err: &impl Print, job: Job, voxels: &[u16]) -> io::Result<()> {
-    let mut room = space::greedy_quads();
-    let out: &mut [u32] = &mut room;
-    let answer = greedy_quads(job, voxels, out);
-    let mesh = answer.mesh;
-    if job.obj {
-        return write_obj(rt, err, mesh, out);
-    }
-    if listed(rt, err, mesh, out, QUAD_NUMBERS)? {
-        show::tests(rt, answer.tests)?;
-    }
+// Prints greedy quads as OBJ text.
+fn write_obj<R: Print + AllocGlobal>(
+    rt: &R,
+    counts: [u64; 6],
+    quads: &[u32],
+) -> Result<(), Failure> {
+    let mut text = vec![in rt.alloc(); 0u8; MOST_TEXT]?;
+    let written = obj::write_obj(cube(), counts, quads, &mut text)?;
+    text.truncate(written);
+    rt.write_all(&text).map_err(|_| Wrong::Unwritten)?;
     Ok(())
 }
 
-// Reads a block of so many voxels and meshes it.
-fn mesh_block(rt: &(impl Input + Print), err: &impl Print, job: Job, size: u32) -> io::Result<()> {
-    let mut room = space::voxels();
-    let voxels: &mut [u16] = &mut room;
-    if !block::read(rt, err, size, voxels)? {
-        return Ok(());
+fn run<R: Env + Input + Print + AllocGlobal>(rt: &R) -> Result<(), Failure> {
+    let job = words::read(rt)?;
+    let voxels = block::read(rt, job.shape)?;
+    match job.form {
+        Form::Unit => mesh_unit(rt, job, &voxels),
+        Form::Greedy | Form::Obj => mesh_greedy(rt, job, &voxels),
     }
-    if job.unit {
-        return mesh_unit(rt, err, job, voxels);
-    }
-    mesh_greedy(rt, err, job, voxels)
 }
 
 fn main(rt: HostRuntime) -> io::Result<()> {
-    let err = rt.stderr();
-    let job = words::read(&rt, &err)?;
-    if job.wrong {
-        return Ok(());
+    match run(&rt) {
+        Ok(()) => Ok(()),
+        Err(failure) => failure.say(&rt.stderr()),
     }
-    let shape = job.shape;
-    match bounds::check_shape(shape) {
-        CheckAnswer::Refused(number, place) => {
-            say::refused(&err, number, place)?;
-            return Ok(());
-        }
-        CheckAnswer::Passed => {}
-    }
-    let size = block::size(shape.x, shape.y, shape.z);
-    if size > block::MOST_VOXELS {
-        return say::many_voxels(&err, size as u64);
-    }
-    mesh_block(&rt, &err, job, size)
 }

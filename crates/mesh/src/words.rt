@@ -1,290 +1,164 @@
 // The words of the command line.
-ghost use Rattle.std.specs.Prelude.{◌≤◌};
-
-use crate::say;
+use crate::say::{Failure, WordError, Wrong};
+use arrayvec::ArrayVec;
 use geometry::vector::UVec3;
 use std::env::FillError;
-use std::io;
 use std::rt::Env;
+use std::str;
+
+// No word of this command is longer. They are read as bytes, since `env::args` gives no word that is not
+// text.
+const LONGEST: usize = 64;
 
 // What is asked for.
 #[derive(Clone, Copy)]
 pub struct Job {
-    // Whether a word was wrong, which has been said.
-    pub wrong: bool,
-    pub unit: bool,
-    pub obj: bool,
+    pub form: Form,
     pub shape: UVec3,
+    // The box.
     pub min: UVec3,
     pub max: UVec3,
 }
 
-// What a word is.
+// As what the mesh is printed.
 #[derive(Clone, Copy)]
-enum Word {
+pub enum Form {
+    Greedy,
     Unit,
     Obj,
-    Box,
-    Number(u32),
-    Other,
 }
 
 // What the words so far have said.
-#[derive(Clone, Copy)]
+#[derive(Drop)]
 struct Words {
-    wrong: bool,
+    // Two flags and no Form: either may come twice, and that both came is said after them all.
     unit: bool,
     obj: bool,
-    // How many numbers of the shape there were.
-    shape: usize,
-    // Whether there was a box, and how many of its numbers there were.
-    boxed: bool,
-    corners: usize,
+    shape: ArrayVec<u32, 3>,
+    // The numbers of the box, where there is one.
+    corners: Option<ArrayVec<u32, 6>>,
 }
 
-// One past the largest number.
-const TOO_LARGE: u64 = 4294967296;
-
-// A number with one digit more, or `TOO_LARGE` where it is none or above the largest.
-fn push_digit(value: u64, byte: u8) -> u64
-    ensures { result ≤ 4294967296 }
-{
-    if value >= TOO_LARGE {
-        return TOO_LARGE;
-    }
-    if byte < b'0' {
-        return TOO_LARGE;
-    }
-    if byte > b'9' {
-        return TOO_LARGE;
-    }
-    let more = value * 10 + (byte - b'0') as u64;
-    if more > TOO_LARGE {
-        return TOO_LARGE;
-    }
-    more
-}
-
-// The number that a word is, or `TOO_LARGE`.
-fn number(text: &[u8]) -> u64 {
-    if text.len() == 0 {
-        return TOO_LARGE;
-    }
-    let mut value: u64 = 0;
-    let mut i: usize = 0;
-    while i < text.len() {
-        value = push_digit(value, text[i]);
-        i += 1;
-    }
-    value
-}
-
-fn kind(text: &[u8]) -> Word {
-    if text == b"--unit".as_slice() {
-        return Word::Unit;
-    }
-    if text == b"--obj".as_slice() {
-        return Word::Obj;
-    }
-    if text == b"--box".as_slice() {
-        return Word::Box;
-    }
-    let n = number(text);
-    if n >= TOO_LARGE {
-        return Word::Other;
-    }
-    Word::Number(n as u32)
-}
-
-// Says what is wrong with a word.
-fn wrong(err: &impl Print, mut w: Words, i: usize, text: &[u8], what: &[u8]) -> io::Result<Words> {
-    say::sentence(err, b"mesh: word ", i as u64, b", '")?;
-    say::text(err, text)?;
-    say::text(err, what)?;
-    w.wrong = true;
-    Ok(w)
-}
-
-// Takes a number: of the box where one is open, and else of the shape.
-fn take_number(
-    err: &impl Print,
-    i: usize,
-    mut w: Words,
-    n: u32,
-    text: &[u8],
-    numbers: &mut [u32; 9],
-) -> io::Result<Words> {
-    let corners = w.corners;
-    let shape = w.shape;
-    if w.boxed {
-        if corners < 6 {
-            let at = corners + 3;
-            numbers[at] = n;
-            w.corners = corners + 1;
-            return Ok(w);
+impl Words {
+    fn new() -> Words {
+        Words {
+            unit: false,
+            obj: false,
+            shape: ArrayVec::new(),
+            corners: None,
         }
     }
-    if shape < 3 {
-        numbers[shape] = n;
-        w.shape = shape + 1;
-        return Ok(w);
-    }
-    wrong(
-        err,
-        w,
-        i,
-        text,
-        b"', is one number too many: the shape is three, X Y Z\n",
-    )
-}
 
-// Takes --box. A second one is wrong.
-fn take_box(err: &impl Print, i: usize, mut w: Words, text: &[u8]) -> io::Result<Words> {
-    if w.boxed {
-        return wrong(err, w, i, text, b"', stands there a second time\n");
-    }
-    w.boxed = true;
-    Ok(w)
-}
-
-// Takes the i-th word.
-fn take(
-    err: &impl Print,
-    i: usize,
-    mut w: Words,
-    text: &[u8],
-    numbers: &mut [u32; 9],
-) -> io::Result<Words> {
-    match kind(text) {
-        Word::Unit => {
-            w.unit = true;
-            Ok(w)
-        }
-        Word::Obj => {
-            w.obj = true;
-            Ok(w)
-        }
-        Word::Box => take_box(err, i, w, text),
-        Word::Number(value) => take_number(err, i, w, value, text, numbers),
-        Word::Other => wrong(
-            err,
-            w,
-            i,
-            text,
-            b"', is neither --unit, --obj, --box nor a number from 0 to 4294967295\n",
-        ),
-    }
-}
-
-// Takes all words.
-fn take_all(rt: &impl Env, err: &impl Print, numbers: &mut [u32; 9]) -> io::Result<Words> {
-    let mut w = Words {
-        wrong: false,
-        unit: false,
-        obj: false,
-        shape: 0,
-        boxed: false,
-        corners: 0,
-    };
-    for i in 1..usize::MAX {
-        if w.wrong {
-            return Ok(w);
-        }
-        let mut text = [0u8; 64];
-        match rt.arg(i, &mut text) {
-            Ok(n) => w = take(err, i, w, &text[..n], numbers)?,
-            Err(FillError::TooLong) => {
-                w = wrong(err, w, i, b"..", b"', is too long for any word of mesh\n")?;
+    fn take(&mut self, word: &[u8]) -> Result<(), WordError> {
+        match word {
+            b"--unit" => self.unit = true,
+            b"--obj" => self.obj = true,
+            b"--box" => {
+                if self.corners.is_some() {
+                    return Err(WordError::Again);
+                }
+                self.corners = Some(ArrayVec::new());
             }
-            Err(FillError::NotPresent) => return Ok(w),
+            _ => self.take_number(number(word).ok_or(WordError::Unknown)?)?,
         }
+        Ok(())
     }
-    Ok(w)
+
+    // Takes a number: of the box where one is open, and else of the shape.
+    fn take_number(&mut self, n: u32) -> Result<(), WordError> {
+        if let Some(corners) = &mut self.corners
+            && corners.try_push(n).is_ok()
+        {
+            return Ok(());
+        }
+        self.shape.try_push(n).map_err(|_| WordError::OneTooMany)
+    }
+
+    // What all of them ask for.
+    fn job(self) -> Result<Job, Wrong> {
+        let Words {
+            unit,
+            obj,
+            shape,
+            corners,
+        } = self;
+        let form = match (unit, obj) {
+            (false, false) => Form::Greedy,
+            (true, false) => Form::Unit,
+            (false, true) => Form::Obj,
+            (true, true) => return Err(Wrong::UnitWithObj),
+        };
+        let corners = corners.map(corners_of).transpose()?;
+        let shape = shape_of(shape)?;
+        let (min, max) = corners.unwrap_or((UVec3 { x: 0, y: 0, z: 0 }, last(shape)));
+        Ok(Job {
+            form,
+            shape,
+            min,
+            max,
+        })
+    }
 }
 
-// Whether there are too few numbers, which is said.
-fn too_few(err: &impl Print, w: Words) -> io::Result<bool> {
-    if w.boxed {
-        if w.corners < 6 {
-            say::sentence(
-                err,
-                b"mesh: --box takes six numbers, and ",
-                w.corners as u64,
-                b" came\n",
-            )?;
-            return Ok(true);
-        }
-    }
-    if w.shape < 3 {
-        say::sentence(
-            err,
-            b"mesh: the shape is three numbers, X Y Z, and ",
-            w.shape as u64,
-            b" came\n",
-        )?;
-        return Ok(true);
-    }
-    Ok(false)
+// The shape that three numbers are.
+fn shape_of(numbers: ArrayVec<u32, 3>) -> Result<UVec3, Wrong> {
+    let [x, y, z] = numbers.into_inner().map_err(|few| Wrong::Shape(few.len()))?;
+    Ok(UVec3 { x, y, z })
 }
 
-// Whether the words are wrong, by themselves or together, which is said.
-fn unfit(err: &impl Print, w: Words) -> io::Result<bool> {
-    if w.wrong {
-        return Ok(true);
-    }
-    if w.unit {
-        if w.obj {
-            say::text(
-                err,
-                b"mesh: --obj writes greedy quads, and does not go with --unit\n",
-            )?;
-            return Ok(true);
-        }
-    }
-    too_few(err, w)
+// The two corners of a box that six numbers are.
+fn corners_of(numbers: ArrayVec<u32, 6>) -> Result<(UVec3, UVec3), Wrong> {
+    let [x0, y0, z0, x1, y1, z1] = numbers
+        .into_inner()
+        .map_err(|few| Wrong::Corners(few.len()))?;
+    let min = UVec3 {
+        x: x0,
+        y: y0,
+        z: z0,
+    };
+    let max = UVec3 {
+        x: x1,
+        y: y1,
+        z: z1,
+    };
+    Ok((min, max))
 }
 
-// The last voxel of an axis.
-fn last(axis: u32) -> u32 {
-    if axis == 0 { 0 } else { axis - 1 }
+// The last voxel of a block.
+fn last(shape: UVec3) -> UVec3 {
+    UVec3 {
+        x: shape.x.saturating_sub(1),
+        y: shape.y.saturating_sub(1),
+        z: shape.z.saturating_sub(1),
+    }
+}
+
+// The number that a word is, by digits alone: a sign is none.
+fn number(word: &[u8]) -> Option<u32> {
+    if !word.iter().all(|byte| byte.is_ascii_digit()) {
+        return None;
+    }
+    str::from_utf8(word).ok()?.parse::<u32>().ok()
 }
 
 // What the words of the command line ask for.
-pub fn read(rt: &impl Env, err: &impl Print) -> io::Result<Job> {
-    let mut numbers = [0u32; 9];
-    let w = take_all(rt, err, &mut numbers)?;
-    let shape = UVec3 {
-        x: numbers[0],
-        y: numbers[1],
-        z: numbers[2],
-    };
-    let min = UVec3 { x: 0, y: 0, z: 0 };
-    let max = UVec3 {
-        x: last(numbers[0]),
-        y: last(numbers[1]),
-        z: last(numbers[2]),
-    };
-    let mut job = Job {
-        wrong: unfit(err, w)?,
-        unit: w.unit,
-        obj: w.obj,
-        shape: shape,
-        min: min,
-        max: max,
-    };
-    if w.boxed {
-        let min = UVec3 {
-            x: numbers[3],
-            y: numbers[4],
-            z: numbers[5],
-        };
-        let max = UVec3 {
-            x: numbers[6],
-            y: numbers[7],
-            z: numbers[8],
-        };
-        job.min = min;
-        job.max = max;
+pub fn read<R: Env + AllocGlobal>(rt: &R) -> Result<Job, Failure> {
+    let mut words = Words::new();
+    for position in 1..usize::MAX {
+        let mut buffer = [0u8; LONGEST];
+        match rt.arg(position, &mut buffer) {
+            Ok(length) => {
+                let word = &buffer[..length];
+                if let Err(wrong) = words.take(word) {
+                    return Err(Failure::Word(position, word.to_vec(rt.alloc())?, wrong));
+                }
+            }
+            Err(FillError::TooLong) => {
+                let word = b"..".to_vec(rt.alloc())?;
+                return Err(Failure::Word(position, word, WordError::TooLong));
+            }
+            Err(FillError::NotPresent) => break,
+        }
     }
-    Ok(job)
+    Ok(words.job()?)
 }

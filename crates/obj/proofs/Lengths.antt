@@ -24,7 +24,7 @@ use Rattle.writing.proofs.Rest.{handed_count}
 use Rattle.writing.proofs.Ordered.{order_passed}
 use Rattle.obj.specs.Text.{corner_lines, triangle_lines, bytes_of, quad_text, text}
 use Rattle.obj.specs.Obj.{obj_text}
-use Rattle.obj.specs.Page.{point_places}
+use Rattle.obj.specs.Writer.{point_places}
 use Rattle.obj.specs.Statements.{most_bytes}
 use Rattle.obj.proofs.Measured.{corners_long, triangles_long_lem, quad_long}
 

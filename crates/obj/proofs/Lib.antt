@@ -1,6 +1,6 @@
 -- Laws, and what is shown of the contracts themselves. A function's own proof stands in the folder named after it.
--- Of bytes put into an output.
-pub mod Page
+-- Of bytes that a writer puts into its output, and of bytes put into an output that is lent.
+pub mod Writer
 -- Of lists end to end.
 pub mod Joined
 -- Of how long a quad's lines are.
@@ -13,7 +13,7 @@ pub mod Given
 pub mod Lines
 -- Of a text's length.
 pub mod Lengths
--- Of a loop over the quads of a group.
+-- Of loops over the groups of a mesh, and over their quads.
 pub mod Going
 -- Of reading a text back.
 pub mod ReadBack

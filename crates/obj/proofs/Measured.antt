@@ -3,7 +3,7 @@
 use mathlib.Core.Bool.{Bool, true, false}
 use mathlib.Core.List.{List, [], ◌∷◌, ◌++◌, append_assoc, append-nil}
 use mathlib.Core.Path.{◌≡◌, refl, sym, ◌∙◌, ap}
-use Prim.Native.Nat.{ℕ, ◌+◌, ◌*◌}
+use Prim.Native.Nat.{ℕ, ◌+◌, ◌*◌, ◌^◌, ◌≤◌, ◌<◌}
 use native.Mathlib.Nat.{add_comm, add_assoc}
 use native.Mathlib.Omega.{arith}
 use lib.IntN.{◌*ℤ◌}
@@ -22,10 +22,17 @@ use Rattle.geometry.proofs.Frame.{frame}
 use Rattle.geometry.proofs.Corners.{corner_n, corner_u, corner_v}
 use Rattle.listing.specs.Listing.{joined}
 use Rattle.digits.specs.Decimal.{digits}
+use Rattle.digits.proofs.Digits.{decimal_holds}
 use Rattle.writing.specs.Handed.{OrientedQuad}
 use Rattle.obj.specs.Text.{space, line_feed, f, Line, spaced, bytes, corner_line, triangle_line, first_triangle, second_triangle, corner_lines, triangle_lines, bytes_of, quad_text}
-use Rattle.obj.specs.Page.{ended, line_of, point_places, triangles_long, on}
+use Rattle.obj.specs.Writer.{ended, line_of, point_places, triangles_long, on}
 use Rattle.obj.proofs.Joined.{joined_append}
+
+-- ---- a number
+
+-- A 32-bit number has at most ten digits.
+pub ten_digits : (n : ℕ) → n < 2 ^ 32 → length (digits n) ≤ 10
+ten_digits n h = (decimal_holds n).few h
 
 -- ---- a line
 

@@ -19,13 +19,13 @@ use Rattle.geometry.proofs.Refusals.{split, applies, passes, refused_number, not
 use Rattle.geometry.proofs.Lists.{each_append}
 use Rattle.voxels.specs.Checks.{bad_faces_from, bad_faces}
 use Rattle.listing.specs.Listing.{overwritten, capacity}
-use Rattle.greedy.specs.Greedy.{quad_numbers}
+use Rattle.geometry.specs.Answers as answers
+use Rattle.greedy.specs.Greedy.{quad_numbers, greedy_answer}
 use Rattle.greedy.specs.contracts.greedy_quads
 use Rattle.greedy.proofs.greedy_quads.Kinds as greedy-quads-kinds
 use Rattle.greedy.proofs.greedy_quads.Reads as greedy-quads
-use Rattle.writing.specs.declared.written.WriteAnswer.{WriteAnswer}
 use Rattle.writing.specs.Handed.{OrientedQuad, numbered, handed, past_list, bad_quad_at, bad_quads, many_quads, handed_checks, listed_checks}
-use Rattle.writing.specs.Written.{WriteOutcome, outcome, refused_answer, accepted_answer}
+use Rattle.writing.specs.Written.{WriteAnswer, write_answer, WriteOutcome, outcome, refused_answer, accepted_answer}
 use Rattle.writing.specs.Statements.{ListedPasses}
 use Rattle.writing.proofs.Outcome.{checks_refuse, short_refused, enough_written}
 use Rattle.writing.proofs.Greedy.{greedy_handed}
@@ -168,7 +168,7 @@ module _ (faces : List OrientedBlockFace) (counts list out : List ℕ) where
 -- Of the contract of `write_obj` itself: its arguments are the faces, the counts, the list and the output.
 pub call_holds : (κs : Lifetimes.Lfts 2) (a : World.ArgsD write_obj.signature κs) (r : World.ResD write_obj.signature κs)
     (s : Clauses.AtExit (Kinds.ended_of 2 write-obj-kinds.ps write-obj-kinds.r) κs)
-    → write-obj.Post κs a r s → WriteHolds a.0 a.1.0 a.1.1.0.now a.1.1.1.0.now r s.1.1.1.0.now
+    → write-obj.Post κs a r s → WriteHolds a.0 a.1.0 a.1.1.0.now a.1.1.1.0.now (write_answer (answers.meaning r)) s.1.1.1.0.now
 call_holds κs a r s post = write_holds _ _ _ _ post
 
 -- ---- after greedy meshing
@@ -176,7 +176,7 @@ call_holds κs a r s post = write_holds _ _ _ _ post
 -- Of the contract of `greedy_quads` itself: a call of the writer on what a greedy call that answers 0 leaves, with its faces and its counts, is refused by 15 alone.
 pub greedy_writes : (κs : Lifetimes.Lfts 3) (a : World.ArgsD greedy_quads.signature κs) (r : World.ResD greedy_quads.signature κs)
     (s : Clauses.AtExit (Kinds.ended_of 3 greedy-quads-kinds.ps greedy-quads-kinds.r) κs)
-    → greedy-quads.Post κs a r s → length a.1.1.1.1.0 ≡ 6 → r.mesh.refusal ≡ 0
-    → (out : List ℕ) (w : WriteAnswer) (last : List ℕ) → outcome w last ≡ write_obj a.1.1.1.1.0 r.mesh.counts s.1.1.1.1.1.1.0.now out
-    → Writes a.1.1.1.1.0 r.mesh.counts s.1.1.1.1.1.1.0.now out w last
+    → greedy-quads.Post κs a r s → length a.1.1.1.1.0 ≡ 6 → (greedy_answer (answers.meaning r)).mesh.refusal ≡ 0
+    → (out : List ℕ) (w : WriteAnswer) (last : List ℕ) → outcome w last ≡ write_obj a.1.1.1.1.0 (greedy_answer (answers.meaning r)).mesh.counts s.1.1.1.1.1.1.0.now out
+    → Writes a.1.1.1.1.0 (greedy_answer (answers.meaning r)).mesh.counts s.1.1.1.1.1.1.0.now out w last
 greedy_writes κs a r s post six zero out w last e = passed_writes _ _ _ out e (greedy_handed κs a r s post six zero)

@@ -10,4 +10,4 @@ pub mod Statements
 -- Worked examples.
 pub mod Examples
 -- For private contracts alone:
-pub mod Page
+pub mod Writer

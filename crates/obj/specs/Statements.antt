@@ -7,9 +7,8 @@ use Rattle.geometry.specs.Vertices.{vertex, quad_indices}
 use Rattle.geometry.specs.Lists.{Each}
 use Rattle.listing.specs.Listing.{joined, overwritten}
 use Rattle.greedy.specs.Greedy.{quad_numbers}
-use Rattle.writing.specs.declared.written.WriteAnswer.{WriteAnswer}
 use Rattle.writing.specs.Handed.{OrientedQuad, numbered, handed, total}
-use Rattle.writing.specs.Written.{refused_answer, accepted_answer}
+use Rattle.writing.specs.Written.{WriteAnswer, refused_answer, accepted_answer}
 use Rattle.writing.specs.Statements.{ListedPasses}
 use Rattle.obj.specs.Text.{Line, four_corners, coordinates, indices_at, first_triangle, second_triangle, triangle_lines}
 use Rattle.obj.specs.Obj.{obj_text}

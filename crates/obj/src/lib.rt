@@ -6,16 +6,18 @@
 #![tactic(auto)]
 
 mod measure;
+mod mesh;
 mod put;
 
 ghost use Rattle.std.specs.Prelude.{◌≡◌};
-ghost use Rattle.writing.specs.Written.{outcome};
+ghost use Rattle.geometry.specs.Answers.{meaning};
+ghost use Rattle.writing.specs.Written.{write_answer, outcome};
 ghost use Rattle.obj.specs.Obj.{write_obj};
 
+use crate::mesh::Mesh;
 use geometry::face::OrientedBlockFace;
-use writing::handed::QuadsAnswer;
-use writing::written::WriteAnswer;
-use writing::{handed, written};
+use geometry::refusal::{Reason, Refusal};
+use writing::handed;
 
 // Writes a mesh, as greedy meshing leaves it, at the start of the output, and answers how many bytes it
 // wrote. Refuses by 24, 6, 12, 13 and then by 15 where the text is longer than the output; then
@@ -25,17 +27,18 @@ pub fn write_obj(
     counts: [u64; 6],
     quads: &[u32],
     out: &mut [u8],
-) -> WriteAnswer
-    ensures { outcome result out.new ≡ write_obj faces counts quads.now out.old }
+) -> Result<usize, Refusal>
+    ensures { outcome (write_answer (meaning result)) out.new ≡ write_obj faces counts quads.now out.old }
 {
-    match handed::check_listed(faces, counts, quads) {
-        QuadsAnswer::Refused(number, place) => written::refused(number, place),
-        QuadsAnswer::Quads(all) => {
-            if !measure::fits(faces, counts, quads, all, out.len()) {
-                return written::refused(written::SHORT_OUTPUT, 0);
-            }
-            let end = put::mesh(faces, counts, quads, out);
-            written::accepted(end as u64)
-        }
+    let all = handed::check_listed(faces, counts, quads)?;
+    let mesh = Mesh {
+        faces,
+        counts,
+        quads,
+        all,
+    };
+    if !measure::fits(&mesh, out.len()) {
+        return Err(Reason::ShortOutput.at(0));
     }
+    Ok(put::mesh(&mesh, out))
 }

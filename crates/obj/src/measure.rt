@@ -1,15 +1,11 @@
 // How many bytes the text of a mesh has, and whether it fits an output, before any of it is written.
-ghost use Rattle.std.specs.Prelude.{◌≡◌, ◌*◌, ◌<◌, ◌≤◌, leb, length};
+ghost use Rattle.std.specs.Prelude.{◌≡◌, ◌≤◌, leb, length};
 ghost use Rattle.geometry.specs.Point.{at};
-ghost use Rattle.geometry.specs.Refusal.{accepted, checked};
-ghost use Rattle.greedy.specs.Greedy.{quad_numbers};
-ghost use Rattle.writing.specs.Handed.{total, most_quads, listed_checks};
 ghost use Rattle.obj.specs.Text.{corner_lines, bytes_of, quad_text};
 ghost use Rattle.obj.specs.Obj.{obj_text};
-ghost use Rattle.obj.specs.Page.{on, point_places, triangles_long, Drawable, GroupReady, group_text};
+ghost use Rattle.obj.specs.Writer.{on, point_places, triangles_long, group_text};
 
-use geometry::face::{CornersAnswer, OrientedBlockFace};
-use geometry::quad::UnorientedQuad;
+use crate::mesh::{Group, Mesh, Quad};
 use greedy::QUAD_NUMBERS;
 use writing::handed;
 
@@ -20,6 +16,7 @@ const HEAD: usize = 7;
 const MOST_QUAD: u64 = 138;
 
 // The digits of a point's coordinates.
+#[tactic(auto, using(crate::proofs::Measured::ten_digits))]
 fn places(x: u32, y: u32, z: u32) -> usize
     ensures value { result ≡ point_places (at x y z) }
     ensures upper_bound { result ≤ 30 }
@@ -29,28 +26,23 @@ fn places(x: u32, y: u32, z: u32) -> usize
 
 // The four lines of a quad's corners. On each axis two of them are where the first corner is, and two
 // where the last is.
-fn corners(face: OrientedBlockFace, quad: UnorientedQuad) -> usize
-    requires { Drawable face quad }
-    ensures { result ≡ length (bytes_of (corner_lines (on face quad))) }
+fn corners(quad: Quad) -> usize
+    ensures { result ≡ length (bytes_of (corner_lines (on quad.face quad.quad))) }
 {
-    match face.quad_corners(quad) {
-        CornersAnswer::Corners(corners) => {
-            let a = corners.minu_minv;
-            let d = corners.maxu_maxv;
-            let first = places(a.x, a.y, a.z);
-            let last = places(d.x, d.y, d.z);
-            20 + 2 * (first + last)
-        }
-        CornersAnswer::Refused(_) => 0,
-    }
+    let corners = quad.face.quad_corners(quad.quad).unwrap();
+    let a = corners.minu_minv;
+    let d = corners.maxu_maxv;
+    let first = places(a.x, a.y, a.z);
+    let last = places(d.x, d.y, d.z);
+    20 + 2 * (first + last)
 }
 
-// The two lines of the triangles of the quad of this number.
-fn triangles(k: u32) -> usize
-    requires { k < most_quads }
-    ensures { result ≡ triangles_long k }
+// The two lines of its triangles.
+#[tactic(auto, using(crate::proofs::Measured::ten_digits))]
+fn triangles(quad: Quad) -> usize
+    ensures { result ≡ triangles_long quad.number }
 {
-    let start = 4 * k;
+    let start = 4 * quad.number;
     let a = digits::places(start + 1);
     let b = digits::places(start + 2);
     let c = digits::places(start + 3);
@@ -59,66 +51,55 @@ fn triangles(k: u32) -> usize
 }
 
 // The six lines of a quad.
-fn quad(face: OrientedBlockFace, quad: UnorientedQuad, k: u32) -> usize
-    requires drawable { Drawable face quad }
-    requires k_lt_most_quads { k < most_quads }
-    ensures { result ≡ length (quad_text k (on face quad)) }
+fn quad(quad: Quad) -> usize
+    ensures { result ≡ length (quad_text quad.number (on quad.face quad.quad)) }
 {
-    corners(face, quad) + triangles(k)
+    corners(quad) + triangles(quad)
 }
 
-// The lines of a group: so many quads on a face, after so many of the groups before.
-fn group(face: OrientedBlockFace, quads: &[u32], first: usize, count: usize) -> usize
-    requires { GroupReady quads.now face first (first * quad_numbers) count }
-    ensures { result ≡ length (group_text quads.now face first (first * quad_numbers) count) }
+// The lines of a group.
+fn group(group: &Group) -> usize
+    ensures { result ≡ length (group_text group.now.quads.now group.now.face group.now.first group.now.count) }
 {
-    let mut length: usize = 0;
-    let mut k: usize = 0;
-    let mut from = first * QUAD_NUMBERS;
-    while k < count {
-        let end = from + QUAD_NUMBERS;
-        let number = first + k;
-        length += quad(face, handed::quad_from(&quads[from..end]), number as u32);
-        from = end;
-        k += 1;
+    let mut length = 0;
+    for k in group.first..group.first + group.count {
+        let from = k * QUAD_NUMBERS;
+        length += quad(Quad {
+            face: group.face,
+            quad: handed::quad_from(&group.quads[from..from + QUAD_NUMBERS]),
+            number: k as u32,
+        });
     }
     length
 }
 
-// The text of a mesh that has passed its checks.
-fn mesh(faces: [OrientedBlockFace; 6], counts: [u64; 6], quads: &[u32]) -> usize
-    requires { checked (listed_checks faces counts quads.now) ≡ accepted tt }
-    ensures { result ≡ length (obj_text faces counts quads.now) }
+// The text of a mesh.
+fn mesh(mesh: &Mesh) -> usize
+    ensures { result ≡ length (obj_text mesh.now.faces mesh.now.counts mesh.now.quads.now) }
 {
     let mut length = HEAD;
-    let mut first: usize = 0;
-    let mut k: usize = 0;
-    while k < 6 {
-        let face = faces[k];
-        let count = counts[k] as usize;
-        length += group(face, quads, first, count);
+    let mut first = 0;
+    for (face, count) in mesh.faces.iter().zip(&mesh.counts) {
+        let count = *count as usize;
+        length += group(&Group {
+            face: *face,
+            quads: mesh.quads,
+            first,
+            count,
+        });
         first += count;
-        k += 1;
     }
     length
 }
 
-// Whether the text of a mesh that has passed its checks, with so many quads, fits a room. Where there is
-// room for any text of so many quads nothing is measured.
-pub(crate) fn fits(
-    faces: [OrientedBlockFace; 6],
-    counts: [u64; 6],
-    quads: &[u32],
-    all: u64,
-    room: usize,
-) -> bool
-    requires quads_value { checked (listed_checks faces counts quads.now) ≡ accepted tt }
-    requires all_value { all ≡ total counts }
-    ensures { result ≡ leb (length (obj_text faces counts quads.now)) room }
+// Whether the text of a mesh fits a room. Where there is room for any text of so many quads nothing is
+// measured.
+pub(crate) fn fits(mesh: &Mesh, room: usize) -> bool
+    ensures { result ≡ leb (length (obj_text mesh.now.faces mesh.now.counts mesh.now.quads.now)) room }
 {
-    let most = HEAD as u64 + MOST_QUAD * all;
+    let most = HEAD as u64 + MOST_QUAD * mesh.all;
     if most <= room as u64 {
         return true;
     }
-    mesh(faces, counts, quads) <= room
+    self::mesh(mesh) <= room
 }

@@ -2,7 +2,7 @@
 #![tactic(auto)]
 
 use geometry::axis::SignedAxis;
-use geometry::face::{Corner, OrientedBlockFace, PositionAnswer};
+use geometry::face::{Corner, OrientedBlockFace};
 use geometry::quad::{UnorientedQuad, UnorientedUnitQuad};
 use geometry::vector::UVec3;
 use std::io;
@@ -15,36 +15,18 @@ pub fn roof(voxels: &[u16], visited: &mut [u8], out: &mut [u32]) -> u64 {
     let max = UVec3 { x: 3, y: 3, z: 2 };
     let up = OrientedBlockFace::canonical(SignedAxis::PosZ);
     let faces = [up, up, up, up, up, up];
-    let answer = greedy::greedy_quads(voxels, shape, min, max, faces, visited, out);
-    let mesh = answer.mesh;
-    let counts = mesh.counts;
-    counts[0]
+    match greedy::greedy_quads(voxels, shape, min, max, faces, visited, out) {
+        Ok(mesh) => mesh.counts[0],
+        Err(_) => 0,
+    }
 }
 
 // The x of a quad's corner opposite its base, or 0 where the quad is refused.
 pub fn far_x(quad: UnorientedQuad, voxel_size: f32) -> f32 {
     let face = OrientedBlockFace::canonical(SignedAxis::PosX);
     match face.quad_mesh_position(quad, Corner::MaxuMaxv, voxel_size) {
-        PositionAnswer::Position(x, _, _) => x,
-        PositionAnswer::Refused(_) => 0.0,
-    }
-}
-
-// Prints what `roof` gives.
-fn print_roof(rt: &impl Print, quads: u64) -> io::Result<()> {
-    println!(rt; "roof: {quads}")
-}
-
-// Prints what `far_x` gives, where it is a number of halves below three.
-fn print_far_x(rt: &impl Print, x: f32) -> io::Result<()> {
-    if x == 0.0 {
-        println!(rt; "far_x: 0")
-    } else if x == 0.5 {
-        println!(rt; "far_x: 0.5")
-    } else if x == 2.5 {
-        println!(rt; "far_x: 2.5")
-    } else {
-        println!(rt; "far_x: another number")
+        Ok(position) => position.x,
+        Err(_) => 0.0,
     }
 }
 
@@ -55,9 +37,9 @@ fn roofs(rt: &impl Print) -> io::Result<()> {
     voxels[22] = 32775;
     let mut visited = [255u8; 48];
     let mut out = [0u32; 30];
-    print_roof(rt, roof(&voxels, &mut visited, &mut out))?;
+    println!(rt; "roof: {}", roof(&voxels, &mut visited, &mut out))?;
     let mut small = [0u32; 29];
-    print_roof(rt, roof(&voxels, &mut visited, &mut small))
+    println!(rt; "roof: {}", roof(&voxels, &mut visited, &mut small))
 }
 
 // E10's quad at the size of E15, the same without a width, and a unit quad.
@@ -68,16 +50,13 @@ fn corners(rt: &impl Print) -> io::Result<()> {
         width: 4,
         height: 5,
     };
-    print_far_x(rt, far_x(quad, 0.25))?;
-    let thin = UnorientedQuad {
-        minimum,
-        width: 0,
-        height: 5,
-    };
-    print_far_x(rt, far_x(thin, 0.25))?;
+    let thin = UnorientedQuad { width: 0, ..quad };
     let voxel = UVec3 { x: 9, y: 9, z: 9 };
-    let unit = UnorientedUnitQuad { minimum: voxel };
-    print_far_x(rt, far_x(UnorientedQuad::from(unit), 0.25))
+    let unit = UnorientedQuad::from(UnorientedUnitQuad { minimum: voxel });
+    for quad in [quad, thin, unit] {
+        println!(rt; "far_x: {}", far_x(quad, 0.25))?;
+    }
+    Ok(())
 }
 
 fn main(rt: HostRuntime) -> io::Result<()> {

@@ -1,82 +1,75 @@
-// What can be wrong with a list or with a record of one, as a number, and in words.
+// What can be wrong with a list or with a record of one.
+use std::alloc::{AllocError, AllocFailed};
 use std::io;
 
-// Of a record.
-pub const NO_NUMBER: u32 = 1;
-
-pub const TOO_LONG: u32 = 2;
-
-pub const CUT: u32 = 3;
-
-pub const NOT_ITS_LENGTH: u32 = 4;
-
-pub const NO_KIND: u32 = 5;
-
-pub const NOT_A_CALL: u32 = 6;
-
-pub const NO_SOURCE: u32 = 7;
-
-pub const NO_INPUT: u32 = 8;
-
-pub const LARGE: u32 = 9;
-
-pub const SMALL: u32 = 10;
-
-pub const RUNS: u32 = 11;
-
-// Of a list.
-pub const LONG_LIST: u32 = 12;
-
-pub const NO_END: u32 = 13;
-
-pub const GOES_ON: u32 = 14;
-
-pub fn text(rt: &impl Print, s: &[u8]) -> io::Result<()> {
-    rt.write_all(s)
+// What is wrong with a record. Its text goes on from the record's number.
+#[derive(Clone, Copy, Debug, thiserror::Error)]
+pub enum Fault {
+    #[error("is not all numbers from 0 to 4294967295 with a space between")]
+    NoNumber,
+    #[error("has more than 512 numbers")]
+    TooLong,
+    #[error("is cut off by the end of the list")]
+    Cut,
+    #[error("has not as many numbers as it says")]
+    NotItsLength,
+    #[error("is of no kind of call")]
+    NoKind,
+    #[error("has not as many numbers as such a call and its answer")]
+    NotACall,
+    #[error("has an answer that its source does not give")]
+    NoSource,
+    #[error("has an axis, a sign or a flag that is none")]
+    NoInput,
+    #[error("has a buffer of more than 4096 elements")]
+    Large,
+    #[error("has an answer that is longer than its buffer")]
+    Small,
+    #[error("has not as many voxels in its runs as it says")]
+    Runs,
 }
 
-// What is wrong, in words. A fault of a record starts with no subject.
-pub fn sentence(rt: &impl Print, fault: u32) -> io::Result<()> {
-    if fault < 6 {
-        return of_text(rt, fault);
-    }
-    if fault < 12 {
-        return of_call(rt, fault);
-    }
-    of_list(rt, fault)
+// What is wrong with a list.
+#[derive(Clone, Copy, Debug, thiserror::Error)]
+pub enum ListFault {
+    #[error("the list is longer than 262143 bytes")]
+    Long,
+    #[error("the list ends before the line 0, which ends it")]
+    NoEnd,
+    #[error("the list goes on after the line 0, which ends it")]
+    GoesOn,
 }
 
-fn of_text(rt: &impl Print, fault: u32) -> io::Result<()> {
-    match fault {
-        TOO_LONG => text(rt, b"has more than 512 numbers\n"),
-        CUT => text(rt, b"is cut off by the end of the list\n"),
-        NOT_ITS_LENGTH => text(rt, b"has not as many numbers as it says\n"),
-        NO_KIND => text(rt, b"is of no kind of call\n"),
-        _ => text(
-            rt,
-            b"is not all numbers from 0 to 4294967295 with a space between\n",
-        ),
+// Why a record was not replayed to its end. By hand: it is never printed, and of what it is made from two
+// go by `io::Error`.
+#[derive(Debug, Drop)]
+pub enum Error {
+    // It is malformed.
+    Malformed(Fault),
+    // Printing failed, or memory ran out.
+    Io(io::Error),
+}
+
+impl From<Fault> for Error {
+    fn from(fault: Fault) -> Error {
+        Error::Malformed(fault)
     }
 }
 
-fn of_call(rt: &impl Print, fault: u32) -> io::Result<()> {
-    match fault {
-        NOT_A_CALL => text(
-            rt,
-            b"has not as many numbers as such a call and its answer\n",
-        ),
-        NO_SOURCE => text(rt, b"has an answer that its source does not give\n"),
-        NO_INPUT => text(rt, b"has an axis, a sign or a flag that is none\n"),
-        LARGE => text(rt, b"has a buffer of more than 4096 elements\n"),
-        SMALL => text(rt, b"has an answer that is longer than its buffer\n"),
-        _ => text(rt, b"has not as many voxels in its runs as it says\n"),
+impl From<io::Error> for Error {
+    fn from(error: io::Error) -> Error {
+        Error::Io(error)
     }
 }
 
-fn of_list(rt: &impl Print, fault: u32) -> io::Result<()> {
-    match fault {
-        LONG_LIST => text(rt, b"the list is longer than 262143 bytes\n"),
-        NO_END => text(rt, b"the list ends before the line 0, which ends it\n"),
-        _ => text(rt, b"the list goes on after the line 0, which ends it\n"),
+impl From<AllocError> for Error {
+    fn from(error: AllocError) -> Error {
+        Error::Io(io::Error::from(error))
+    }
+}
+
+impl<T: Drop> From<AllocFailed<T>> for Error {
+    fn from(error: AllocFailed<T>) -> Error {
+        Error::Io(io::Error::from(error))
     }
 }

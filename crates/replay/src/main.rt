@@ -12,154 +12,79 @@
 
 mod draw;
 mod fault;
+mod kind;
 mod mesh;
-mod space;
+mod record;
 mod tally;
 mod text;
-mod value;
 
-ghost use Rattle.std.specs.Prelude.{◌≤◌, length, IfOk};
-
+use fault::{Error, ListFault};
+use kind::Kind;
+use record::Record;
+use std::alloc::Global;
 use std::io::{self, Read};
-use text::Line;
+use tally::Tally;
 
-// Where the reading stands.
-#[derive(Clone, Copy)]
-struct Place {
-    // Where the next line starts.
-    at: usize,
-    // Whether the line that ends the list has been read.
-    done: bool,
+// The most bytes of a list.
+const MOST: usize = 262143;
+
+// Replays the record of a line.
+fn replay_record<R: Print>(
+    tally: &mut Tally<'_, R>,
+    alloc: Global,
+    line: &[u8],
+) -> Result<(), Error> {
+    let numbers = text::numbers(alloc, line)?;
+    let record = Record::new(&numbers)?;
+    match record.kind {
+        Kind::GreedyQuads => mesh::greedy_quads(tally, alloc, record),
+        Kind::VisibleBlockFaces => mesh::visible_block_faces(tally, alloc, record),
+        Kind::QuadMeshPosition => draw::position(tally, record),
+        Kind::QuadCorners => draw::corners(tally, record),
+        Kind::QuadMeshNormals => draw::normal(tally, record),
+        Kind::QuadMeshIndices => draw::indices(tally, record),
+        Kind::TexCoords => draw::tex_coords(tally, record),
+        Kind::SignedAxisNew => draw::new(tally, record),
+        Kind::SignedAxisFromVector => draw::from_vector(tally, record),
+        Kind::Canonical => draw::canonical(tally, record),
+    }
 }
 
-// The fault of a record that has so many numbers, its length among them, or 0.
-fn fault_of(numbers: &[u32; 512], count: usize) -> u32 {
-    if count < 4 {
-        return fault::NOT_ITS_LENGTH;
+// Replays a list, and answers what is wrong with it as a whole.
+fn replay_list<R: Print>(
+    tally: &mut Tally<'_, R>,
+    alloc: Global,
+    list: &[u8],
+) -> io::Result<Option<ListFault>> {
+    if list.len() > MOST {
+        return Ok(Some(ListFault::Long));
     }
-    if value::size_at(numbers, 0) != count - 1 {
-        return fault::NOT_ITS_LENGTH;
-    }
-    if numbers[1] == 0 {
-        return fault::NO_KIND;
-    }
-    if numbers[1] > 10 {
-        return fault::NO_KIND;
-    }
-    0
-}
-
-// Replays a record that has so many numbers, its length among them.
-fn record(
-    rt: &impl Print,
-    tally: &mut [u64; 44],
-    numbers: &[u32; 512],
-    count: usize,
-) -> io::Result<()> {
-    let wrong = fault_of(numbers, count);
-    if wrong != 0 {
-        return tally::malformed(rt, tally, wrong);
-    }
-    if numbers[1] < 3 {
-        return mesh::replay(rt, tally, numbers);
-    }
-    draw::replay(rt, tally, numbers)
-}
-
-// Replays what a line has, or says what is wrong with it.
-fn replay_line(
-    rt: &impl Print,
-    tally: &mut [u64; 44],
-    numbers: &[u32; 512],
-    read: Line,
-) -> io::Result<()> {
-    tally::next_record(tally);
-    if read.wrong != 0 {
-        return tally::malformed(rt, tally, read.wrong);
-    }
-    record(rt, tally, numbers, read.count)
-}
-
-// Whether a line ends the list.
-fn is_end(numbers: &[u32; 512], read: Line) -> bool {
-    if read.wrong != 0 {
-        return false;
-    }
-    if read.count != 1 {
-        return false;
-    }
-    numbers[0] == 0
-}
-
-// Reads the line that starts at a place, and replays it.
-fn line(rt: &impl Print, tally: &mut [u64; 44], list: &[u8], at: usize) -> io::Result<Place> {
-    let next = text::next_line(list, at);
-    if text::byte(list, at) != b'#' {
-        let mut numbers = [0u32; 512];
-        let read = text::read_line(list, at, &mut numbers);
-        if is_end(&numbers, read) {
-            return Ok(Place {
-                at: next,
-                done: true,
-            });
+    let mut ended = false;
+    for line in list.split_inclusive(|byte| *byte == b'\n') {
+        if ended {
+            return Ok(Some(ListFault::GoesOn));
         }
-        replay_line(rt, tally, &numbers, read)?;
-    }
-    Ok(Place {
-        at: next,
-        done: false,
-    })
-}
-
-// Reads all lines, and answers the fault of the list, or 0.
-fn lines(rt: &impl Print, tally: &mut [u64; 44], list: &[u8]) -> io::Result<u32> {
-    let mut at: usize = 0;
-    let mut k: usize = 0;
-    while k < list.len() {
-        let place = line(rt, tally, list, at)?;
-        at = place.at;
-        if place.done {
-            return Ok(if at < list.len() { fault::GOES_ON } else { 0 });
+        if text::is_end(line) {
+            ended = true;
+        } else if !text::is_comment(line) {
+            tally.next_record();
+            match replay_record(tally, alloc, line) {
+                Ok(()) => {}
+                Err(Error::Malformed(fault)) => tally.malformed(fault)?,
+                Err(Error::Io(error)) => return Err(error),
+            }
         }
-        if at >= list.len() {
-            return Ok(fault::NO_END);
-        }
-        k += 1;
     }
-    Ok(fault::NO_END)
-}
-
-// Reads until the text is full or the input ends, and answers how many bytes it put at its start.
-fn read_full(input: &mut impl Read, text: &mut [u8]) -> io::Result<usize>
-    ensures { IfOk result (λ n. n ≤ length text.new) }
-{
-    let mut done: usize = 0;
-    while done < text.len() {
-        let n = input.read(&mut text[done..])?;
-        if n == 0 {
-            return Ok(done);
-        }
-        done += n;
-    }
-    Ok(done)
-}
-
-// Reads a list from standard input, replays it, and answers its fault, or 0.
-fn replay(rt: &(impl Input + Print), tally: &mut [u64; 44], text: &mut [u8]) -> io::Result<u32> {
-    let got = read_full(&mut rt.reader(), text)?;
-    if got == text.len() {
-        return Ok(fault::LONG_LIST);
-    }
-    lines(rt, tally, &text[..got])
+    Ok(if ended { None } else { Some(ListFault::NoEnd) })
 }
 
 fn main(rt: HostRuntime) -> io::Result<()> {
-    let mut counts = [0u64; 44];
-    let mut room = space::text();
-    let text: &mut [u8] = &mut room;
-    let wrong = replay(&rt, &mut counts, text)?;
-    if wrong != 0 {
-        tally::wrong_list(&rt, &mut counts, wrong)?;
+    let alloc = rt.alloc();
+    let mut list = Vec::new(alloc);
+    rt.reader().take(MOST as u64 + 1).read_to_end(&mut list)?;
+    let mut tally = Tally::new(&rt);
+    if let Some(fault) = replay_list(&mut tally, alloc, &list)? {
+        tally.wrong_list(fault)?;
     }
-    tally::end(&rt, &counts)
+    tally.end()
 }

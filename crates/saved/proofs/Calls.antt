@@ -15,6 +15,7 @@ use denote.Triple.Clauses
 use Rattle.geometry.specs.declared.face.OrientedBlockFace.{OrientedBlockFace}
 use Rattle.geometry.specs.Checks.{bad_sign}
 use Rattle.geometry.specs.Refusal.{accepted, refused, Check, at_place, answer, checked}
+use Rattle.geometry.specs.Answers.{meaning}
 use Rattle.geometry.specs.Lists.{Each}
 use Rattle.geometry.proofs.Refusals.{passes, answer_refused}
 use Rattle.voxels.specs.Checks.{bad_faces_from, bad_faces}
@@ -24,12 +25,12 @@ use Rattle.listing.specs.Listing.{overwritten, capacity}
 use Rattle.listing.specs.Outcome.{mesh_answer}
 use Rattle.listing.specs.Cut.{groups_in, Matched}
 use Rattle.greedy.proofs.Call.{call_holds}
+use Rattle.greedy.specs.Greedy.{greedy_answer}
 use Rattle.greedy.specs.contracts.greedy_quads
 use Rattle.greedy.proofs.greedy_quads.Kinds as greedy-quads-kinds
 use Rattle.greedy.proofs.greedy_quads.Reads as greedy-quads
-use Rattle.writing.specs.declared.written.WriteAnswer.{WriteAnswer}
 use Rattle.writing.specs.Handed.{handed, total, past_list, most_quads, five_checks}
-use Rattle.writing.specs.Written.{WriteOutcome, outcome, accepted_answer}
+use Rattle.writing.specs.Written.{WriteAnswer, write_answer, WriteOutcome, outcome, accepted_answer}
 use Rattle.writing.specs.Statements.{WithinQuad}
 use Rattle.saved.specs.Leaves.{WriterLeaves, Writes}
 use Rattle.saved.proofs.Numbered.{writer_number, handed_numbered}
@@ -38,12 +39,11 @@ use Rattle.saved.proofs.Checking.{within_quads}
 use Rattle.writing.proofs.Outcome.{checks_refuse, short_refused, enough_written}
 use Rattle.saved.proofs.Writers.{parts, by_cases, handed_leaves, passed_writes}
 use Rattle.writing.proofs.Greedy.{greedy_handed}
-use Rattle.saved.specs.declared.ReadAnswer.{ReadAnswer}
 use Rattle.saved.specs.Bytes.{Bytes}
 use Rattle.saved.specs.Form.{first_form, Mesh, head_count}
 use Rattle.saved.specs.Layout.{bytes}
 use Rattle.saved.specs.Read.{parse}
-use Rattle.saved.specs.Saved.{handed_mesh, file_of, write_form, write_saved, quad_count, mesh_numbers, read_answer, read_outcome, read_saved}
+use Rattle.saved.specs.Saved.{handed_mesh, file_of, write_form, write_saved, quad_count, mesh_numbers, ReadAnswer, read_answer, reader_answer, read_outcome, read_saved}
 use Rattle.saved.specs.Statements.{Fits, Ok, WriteHolds, ReadsBack, WritesBack}
 use Rattle.saved.proofs.Roundtrip.{write_read, read_write, one_byte_string, one_mesh}
 use Rattle.saved.proofs.Cut.{longer_refused, cut_refused}
@@ -269,20 +269,25 @@ handed_one faces counts list faces' counts' list' ok ok' e =
 -- A call of the writer: its arguments are the faces and the counts, six each, the list and the output.
 module _ (κs : Lifetimes.Lfts 2) (a : World.ArgsD write_saved.signature κs) (w : World.ResD write_saved.signature κs)
     (s : Clauses.AtExit (Kinds.ended_of 2 write-saved-kinds.ps write-saved-kinds.r) κs) (post : write-saved.Post κs a w s) (faces_six : length a.0 ≡ 6) (counts_six : length a.1.0 ≡ 6) where
-  pub write_call_holds : WriteHolds a.0 a.1.0 a.1.1.0.now a.1.1.1.0.now w s.1.1.1.0.now
+  -- What it answers.
+  abbrev answered : WriteAnswer
+  answered = write_answer (meaning w)
+
+  pub write_call_holds : WriteHolds a.0 a.1.0 a.1.1.0.now a.1.1.1.0.now answered s.1.1.1.0.now
   write_call_holds = write_holds a.0 a.1.0 a.1.1.0.now faces_six counts_six _ post
 
-  module _ (zero : w.refusal ≡ 0) where
+  module _ (zero : answered.refusal ≡ 0) where
     -- Where it answers 0, every call of the reader on the bytes that it wrote gives back what was handed in, or is refused by 9 alone.
     pub write_then_read : (λs : Lifetimes.Lfts 2) (c : World.ArgsD read_saved.signature λs) (r : World.ResD read_saved.signature λs)
         (t : Clauses.AtExit (Kinds.ended_of 2 read-saved-kinds.ps read-saved-kinds.r) λs)
-        → read-saved.Post λs c r t → c.0.now ≡ take w.written s.1.1.1.0.now → ReadsBack a.0 a.1.0 a.1.1.0.now c.1.0.now r t.1.0.now
+        → read-saved.Post λs c r t → c.0.now ≡ take answered.written s.1.1.1.0.now → ReadsBack a.0 a.1.0 a.1.1.0.now c.1.0.now (reader_answer (meaning r)) t.1.0.now
     write_then_read λs c r t then e = reads_back a.0 a.1.0 a.1.1.0.now faces_six counts_six _ post zero _ _ e then
 
     -- Another call of the writer that answers 0 and wrote the same bytes was handed the same faces, counts and quads.
     pub one_mesh_written : (λs : Lifetimes.Lfts 2) (c : World.ArgsD write_saved.signature λs) (v : World.ResD write_saved.signature λs)
         (t : Clauses.AtExit (Kinds.ended_of 2 write-saved-kinds.ps write-saved-kinds.r) λs)
-        → write-saved.Post λs c v t → length c.0 ≡ 6 → length c.1.0 ≡ 6 → v.refusal ≡ 0 → take w.written s.1.1.1.0.now ≡ take v.written t.1.1.1.0.now
+        → write-saved.Post λs c v t → length c.0 ≡ 6 → length c.1.0 ≡ 6 → (write_answer (meaning v)).refusal ≡ 0
+        → take answered.written s.1.1.1.0.now ≡ take (write_answer (meaning v)).written t.1.1.1.0.now
         → (a.0 ≡ c.0) × (a.1.0 ≡ c.1.0) × (take (5 * total a.1.0) a.1.1.0.now ≡ take (5 * total c.1.0) c.1.1.0.now)
     one_mesh_written λs c v t other faces-six' counts-six' zero' same =
         handed_one a.0 a.1.0 a.1.1.0.now c.0 c.1.0 c.1.1.0.now
@@ -292,31 +297,36 @@ module _ (κs : Lifetimes.Lfts 2) (a : World.ArgsD write_saved.signature κs) (w
 
 -- A call of the reader that answers 0: its arguments are the bytes and the output.
 module _ (κs : Lifetimes.Lfts 2) (a : World.ArgsD read_saved.signature κs) (r : World.ResD read_saved.signature κs)
-    (s : Clauses.AtExit (Kinds.ended_of 2 read-saved-kinds.ps read-saved-kinds.r) κs) (post : read-saved.Post κs a r s) (zero : r.mesh.refusal ≡ 0) where
+    (s : Clauses.AtExit (Kinds.ended_of 2 read-saved-kinds.ps read-saved-kinds.r) κs) (post : read-saved.Post κs a r s) (zero : (reader_answer (meaning r)).mesh.refusal ≡ 0) where
+  -- What it answers.
+  abbrev told : ReadAnswer
+  told = reader_answer (meaning r)
+
   -- Every call of the writer on its faces, its counts and its output writes the bytes that were read, each of which is one, or is refused by 13 or 15 alone.
   pub read_then_write : Bytes a.0.now → (λs : Lifetimes.Lfts 2) (c : World.ArgsD write_saved.signature λs) (w : World.ResD write_saved.signature λs)
       (t : Clauses.AtExit (Kinds.ended_of 2 write-saved-kinds.ps write-saved-kinds.r) λs)
-      → write-saved.Post λs c w t → c.0 ≡ r.faces → c.1.0 ≡ r.mesh.counts → c.1.1.0.now ≡ s.1.0.now
-      → WritesBack a.0.now r.mesh.counts c.1.1.1.0.now w t.1.1.1.0.now
+      → write-saved.Post λs c w t → c.0 ≡ told.faces → c.1.0 ≡ told.mesh.counts → c.1.1.0.now ≡ s.1.0.now
+      → WritesBack a.0.now told.mesh.counts c.1.1.1.0.now (write_answer (meaning w)) t.1.1.1.0.now
   read_then_write are λs c w t then faces counts list = writes_left a.0.now are a.1.0.now post zero _ _ _ faces counts list _ then
 
   -- Every call of the reader on those bytes cut anywhere is refused by 16 at one of the sections, 0 to 6, whatever output it is lent, and leaves that as it was.
   pub cut_call : (λs : Lifetimes.Lfts 2) (c : World.ArgsD read_saved.signature λs) (q : World.ResD read_saved.signature λs)
       (t : Clauses.AtExit (Kinds.ended_of 2 read-saved-kinds.ps read-saved-kinds.r) λs)
-      → read-saved.Post λs c q t → (n : ℕ) → n < length a.0.now → c.0.now ≡ take n a.0.now → (p : ℕ) × (p ≤ 6) × (q ≡ read_answer (refused 16 p)) × (t.1.0.now ≡ c.1.0.now)
+      → read-saved.Post λs c q t → (n : ℕ) → n < length a.0.now → c.0.now ≡ take n a.0.now → (p : ℕ) × (p ≤ 6) × (reader_answer (meaning q) ≡ read_answer (refused 16 p)) × (t.1.0.now ≡ c.1.0.now)
   cut_call λs c q t then n less e = cut_left a.0.now a.1.0.now post zero n less _ _ e then
 
   -- Every call on those bytes with anything after them is refused by 16 at 7, and leaves its output as it was.
   pub longer_call : (λs : Lifetimes.Lfts 2) (c : World.ArgsD read_saved.signature λs) (q : World.ResD read_saved.signature λs)
       (t : Clauses.AtExit (Kinds.ended_of 2 read-saved-kinds.ps read-saved-kinds.r) λs)
-      → read-saved.Post λs c q t → (x : ℕ) (more : List ℕ) → c.0.now ≡ a.0.now ++ (x ∷ more) → (q ≡ read_answer (refused 16 7)) × (t.1.0.now ≡ c.1.0.now)
+      → read-saved.Post λs c q t → (x : ℕ) (more : List ℕ) → c.0.now ≡ a.0.now ++ (x ∷ more) → (reader_answer (meaning q) ≡ read_answer (refused 16 7)) × (t.1.0.now ≡ c.1.0.now)
   longer_call λs c q t then x more e = longer_left a.0.now a.1.0.now post zero x more _ _ e then
 
   -- Another call that answers 0 and gives the same faces, counts and quads was lent the same bytes.
   pub one_file_read : Bytes a.0.now → (λs : Lifetimes.Lfts 2) (c : World.ArgsD read_saved.signature λs) (q : World.ResD read_saved.signature λs)
       (t : Clauses.AtExit (Kinds.ended_of 2 read-saved-kinds.ps read-saved-kinds.r) λs)
-      → read-saved.Post λs c q t → q.mesh.refusal ≡ 0 → Bytes c.0.now
-      → r.faces ≡ q.faces → r.mesh.counts ≡ q.mesh.counts → take (5 * total r.mesh.counts) s.1.0.now ≡ take (5 * total q.mesh.counts) t.1.0.now
+      → read-saved.Post λs c q t → (reader_answer (meaning q)).mesh.refusal ≡ 0 → Bytes c.0.now
+      → told.faces ≡ (reader_answer (meaning q)).faces → told.mesh.counts ≡ (reader_answer (meaning q)).mesh.counts
+      → take (5 * total told.mesh.counts) s.1.0.now ≡ take (5 * total (reader_answer (meaning q)).mesh.counts) t.1.0.now
       → a.0.now ≡ c.0.now
   one_file_read are λs c q t other zero' are' faces counts quads = files_one a.0.now are a.1.0.now post zero c.0.now are' c.1.0.now other zero' faces counts quads
 
@@ -340,12 +350,12 @@ counts_long numbers read P faces counts list h =
 -- Of the contract of `greedy_quads` itself: a call of the writer on what a greedy call that answers 0 leaves, with its faces and its counts, writes the file, 34 bytes and 20 for each quad, or it is refused by 15 alone.
 pub greedy_saves : (κs : Lifetimes.Lfts 3) (a : World.ArgsD greedy_quads.signature κs) (r : World.ResD greedy_quads.signature κs)
     (s : Clauses.AtExit (Kinds.ended_of 3 greedy-quads-kinds.ps greedy-quads-kinds.r) κs)
-    → greedy-quads.Post κs a r s → length a.1.1.1.1.0 ≡ 6 → r.mesh.refusal ≡ 0
-    → (out : List ℕ) (w : WriteAnswer) (last : List ℕ) → outcome w last ≡ write_saved a.1.1.1.1.0 r.mesh.counts s.1.1.1.1.1.1.0.now out
-    → (length (file_of first_form a.1.1.1.1.0 r.mesh.counts s.1.1.1.1.1.1.0.now) ≡ 34 + 20 * total r.mesh.counts)
-    × Writes (file_of first_form a.1.1.1.1.0 r.mesh.counts s.1.1.1.1.1.1.0.now) out w last
+    → greedy-quads.Post κs a r s → length a.1.1.1.1.0 ≡ 6 → (greedy_answer (meaning r)).mesh.refusal ≡ 0
+    → (out : List ℕ) (w : WriteAnswer) (last : List ℕ) → outcome w last ≡ write_saved a.1.1.1.1.0 (greedy_answer (meaning r)).mesh.counts s.1.1.1.1.1.1.0.now out
+    → (length (file_of first_form a.1.1.1.1.0 (greedy_answer (meaning r)).mesh.counts s.1.1.1.1.1.1.0.now) ≡ 34 + 20 * total (greedy_answer (meaning r)).mesh.counts)
+    × Writes (file_of first_form a.1.1.1.1.0 (greedy_answer (meaning r)).mesh.counts s.1.1.1.1.1.1.0.now) out w last
 unfolding write_saved write_form
 greedy_saves κs a r s post six zero out w last e =
     let passed = greedy_handed κs a r s post six zero in
-    let counts_six : length r.mesh.counts ≡ 6 = counts_long _ _ _ _ _ _ (call_holds κs a r s post zero).groups ∙ six in
+    let counts_six : length (greedy_answer (meaning r)).mesh.counts ≡ 6 = counts_long _ _ _ _ _ _ (call_holds κs a r s post zero).groups ∙ six in
     (handed_size _ _ _ six counts_six passed, passed_writes _ _ out passed e)

@@ -19,7 +19,9 @@ pub mod FaceBytes
 pub mod Codes
 -- Of sections from a byte on.
 pub mod Places
--- Of what is left to write.
+-- Of an output that is filled,
+pub mod Filling
+-- and of what is left to write.
 pub mod Writing
 -- Of the way to a byte of a file.
 pub mod Reaching

@@ -4,11 +4,9 @@ use mathlib.Core.Path.{◌≡◌, refl, ap}
 use Prim.Native.Nat.{ℕ, zero, suc, ◌+◌, ◌*◌, ◌/◌, ◌%◌, ◌≤◌, ◌<◌, ◌^◌}
 use native.Mathlib.Nat.{pow-suc, not-suc-le-zero}
 use native.Mathlib.Omega.{arith}
-use lib.ListN.{length, get_or, take, drop, set}
+use lib.ListN.{length, get_or, take}
+use Rattle.std.specs.Int.{w32, to_le_bytes}
 use Rattle.geometry.specs.Lists.{Each}
-use Rattle.voxels.proofs.Asked.{drop_next}
-use Rattle.listing.specs.Pushed.{set_all}
-use Rattle.obj.specs.Page.{put, Wrote}
 use Rattle.saved.specs.Bytes.{Bytes, written, number, written32, number32}
 
 -- A number has as many bytes as it is written in,
@@ -57,29 +55,19 @@ number_longer (suc k) (b ∷ l) rest h = rw (number_longer k l rest (omega arith
 
 -- ---- 32-bit numbers, byte by byte
 
--- The number at a place.
-pub number_at : (bytes : List ℕ) (at : ℕ) → at + 4 ≤ length bytes
-    → number32 (drop at bytes) ≡ get_or bytes at 0 + 256 * get_or bytes (at + 1) 0 + 65_536 * get_or bytes (at + 2) 0 + 16_777_216 * get_or bytes (at + 3) 0
+-- The number of four bytes.
+pub number_of_four : (bytes : List ℕ) → 4 ≤ length bytes → number32 bytes ≡ get_or bytes 0 0 + 256 * get_or bytes 1 0 + 65_536 * get_or bytes 2 0 + 16_777_216 * get_or bytes 3 0
 unfolding number
-number_at bytes at h =
-    let two : at + 1 + 1 ≡ at + 2 = omega arith in
-    let three : at + 2 + 1 ≡ at + 3 = omega arith in
-    rw (drop_next bytes at 0 (omega arith), drop_next bytes (at + 1) 0 (omega arith), two, drop_next bytes (at + 2) 0 (omega arith), three, drop_next bytes (at + 3) 0 (omega arith))
-    (omega arith)
+number_of_four [] h = absurd (omega arith)
+number_of_four (a ∷ []) h = absurd (omega arith)
+number_of_four (a ∷ b ∷ []) h = absurd (omega arith)
+number_of_four (a ∷ b ∷ c ∷ []) h = absurd (omega arith)
+number_of_four (a ∷ b ∷ c ∷ d ∷ l) h = omega arith
 
--- Its four bytes,
-four_bytes : (n : ℕ) → n < 4_294_967_296 → written32 n ≡ n % 256 ∷ n / 256 % 256 ∷ n / 65_536 % 256 ∷ n / 16_777_216 ∷ []
+-- Its four bytes.
+pub four_bytes : (n : ℕ) → to_le_bytes w32 n ≡ written32 n
 unfolding written
-four_bytes n h =
+four_bytes n =
     let third : n / 256 / 256 % 256 ≡ n / 65_536 % 256 = omega arith in
-    let fourth : n / 256 / 256 / 256 % 256 ≡ n / 16_777_216 = omega arith in
+    let fourth : n / 256 / 256 / 256 % 256 ≡ n / 16_777_216 % 256 = omega arith in
     rw (third, fourth)
-
--- set in an output one after another.
-pub four_written : (n : ℕ) (out : List ℕ) (at : ℕ) → n < 4_294_967_296
-    → Wrote (written32 n) out at (set (set (set (set out at (n % 256)) (at + 1) (n / 256 % 256)) (at + 2) (n / 65_536 % 256)) (at + 3) (n / 16_777_216)) (at + 4)
-unfolding put set_all
-four_written n out at h =
-    let two : at + 1 + 1 ≡ at + 2 = omega arith in
-    let three : at + 2 + 1 ≡ at + 3 = omega arith in
-    record { is = rw (four_bytes n h, two, three) }

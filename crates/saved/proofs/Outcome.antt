@@ -13,6 +13,7 @@ use borrow.Fn.World
 use borrow.Fn.Kinds
 use denote.Triple.Clauses
 use Rattle.geometry.specs.Refusal.{Answer, accepted, refused, Check, answer}
+use Rattle.geometry.specs.Answers.{meaning}
 use Rattle.geometry.specs.Lists.{Each}
 use Rattle.geometry.proofs.Refusals.{split, applies, passes, accepts_checked, answer_refused, whole_passes}
 use Rattle.geometry.proofs.Lists.{each_append}
@@ -20,11 +21,10 @@ use Rattle.saved.proofs.Numbered.{Numbered, never}
 use Rattle.listing.specs.Listing.{joined, overwritten, capacity}
 use Rattle.writing.specs.Handed.{OrientedQuad, numbered, bad_quad_at, total}
 use Rattle.saved.proofs.Checking.{total_joined}
-use Rattle.saved.specs.declared.ReadAnswer.{ReadAnswer}
 use Rattle.saved.specs.Bytes.{Bytes}
 use Rattle.saved.specs.Form.{Form, first_form, Mesh, quad_size, head_count}
 use Rattle.saved.specs.Read.{after_section, section_checks, file_checks, face_bytes_in, mesh_in, bad_face_bytes_from, bad_face_bytes, mesh_quads, bad_mesh, read_checks, parse}
-use Rattle.saved.specs.Saved.{handed_mesh, quad_count, mesh_numbers, fitting, read_answer, ReadOutcome, read_outcome, read_form, read_saved}
+use Rattle.saved.specs.Saved.{handed_mesh, quad_count, mesh_numbers, fitting, ReadAnswer, read_answer, reader_answer, ReadOutcome, read_outcome, read_form, read_saved}
 use Rattle.saved.specs.Statements.{Ok, FilePasses, read_number, ReadHolds}
 use Rattle.saved.proofs.Section.{both_false}
 use Rattle.saved.proofs.Roundtrip.{read_write}
@@ -260,5 +260,5 @@ module _ (b out : List ℕ) (are : Bytes b) where
 -- Of the contract of `read_saved` itself: its arguments are the bytes, each of which is one, and the output.
 pub read_call_holds : (κs : Lifetimes.Lfts 2) (a : World.ArgsD read_saved.signature κs) (r : World.ResD read_saved.signature κs)
     (s : Clauses.AtExit (Kinds.ended_of 2 read-saved-kinds.ps read-saved-kinds.r) κs)
-    → read-saved.Post κs a r s → Bytes a.0.now → ReadHolds a.0.now a.1.0.now r s.1.0.now
+    → read-saved.Post κs a r s → Bytes a.0.now → ReadHolds a.0.now a.1.0.now (reader_answer (meaning r)) s.1.0.now
 read_call_holds κs a r s post are = read_holds _ _ are post

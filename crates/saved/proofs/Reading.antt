@@ -10,16 +10,13 @@ use Rattle.geometry.specs.declared.face.OrientedBlockFace.{OrientedBlockFace}
 use Rattle.geometry.specs.Refusal.{Answer, accepted, refused, answer, checked}
 use Rattle.geometry.proofs.Refusals.{applies, passes, whole_refuses, whole_passes}
 use Rattle.geometry.proofs.Orders.{part_refuses, part_passes, both_pass}
-use Rattle.listing.specs.declared.MeshAnswer.{MeshAnswer}
 use Rattle.listing.specs.Listing.{joined, overwritten, capacity, too_many}
 use Rattle.listing.specs.Outcome.{mesh_answer}
-use Rattle.obj.specs.Page.{Room}
 use Rattle.writing.proofs.Rest.{group_held}
-use Rattle.saved.specs.declared.ReadAnswer.{ReadAnswer}
 use Rattle.saved.specs.Form.{Form, Mesh, quad_size, face_of}
-use Rattle.saved.specs.Read.{file_checks, face_bytes_in, mesh_in, bad_face_bytes, mesh_quads, bad_mesh, read_checks, parse}
+use Rattle.saved.specs.Read.{file_checks, face_bytes_in, groups_in, mesh_in, bad_face_bytes, mesh_quads, bad_mesh, read_checks, parse}
 use Rattle.saved.specs.Saved.{quad_count, fitting, read_answer, read_outcome, read_form}
-use Rattle.saved.specs.Private.{groups_at, list_at, bad_groups_at}
+use Rattle.saved.specs.Private.{bad_groups_of}
 use Rattle.saved.proofs.Walking.{first_quads, face_bytes_at, mesh_at, file_length}
 use Rattle.saved.proofs.Taking.{list_length}
 
@@ -43,12 +40,12 @@ module _ (form : Form) (b : List ℕ) where
 
     -- and then the quads, on the faces of those bytes.
     pub quads_decide : checked (bad_face_bytes (take 6 (drop 4 b))) ≡ accepted tt → {faces : List OrientedBlockFace} → faces ≡ map face_of (take 6 (drop 4 b))
-        → {x : Answer (Unit {0})} → x ≡ checked (bad_groups_at form.numbers b faces 0 (first_quads form.mark) 6) → x ≡ checked (read_checks form b)
+        → {x : Answer (Unit {0})} → x ≡ checked (bad_groups_of form.numbers faces 0 6 (drop (first_quads form.mark) b)) → x ≡ checked (read_checks form b)
     unfolding read_checks mesh_quads
     quads_decide codes is e =
         part_passes (file_checks form b ++ bad_face_bytes (face_bytes_in b)) (bad_mesh (mesh_in form b)) tt (sym (both (sym codes)))
         (e
-        ∙ ap (λ (fs : List OrientedBlockFace). checked (bad_groups_at form.numbers b fs 0 (first_quads form.mark) 6)) is
+        ∙ ap (λ (fs : List OrientedBlockFace). checked (bad_groups_of form.numbers fs 0 6 (drop (first_quads form.mark) b))) is
         ∙ ap (λ (m : Mesh). checked (bad_mesh m)) (sym (mesh_at form b file)))
 
   -- ---- a file that is refused
@@ -58,9 +55,9 @@ module _ (form : Form) (b : List ℕ) where
     unfolding fitting parse
     fitting_refused = rw (sym (whole_refuses (read_checks form b) (mesh_in form b) e))
 
-    pub read_refused : {r : ReadAnswer} → r ≡ read_answer (refused n p) → read_outcome r out ≡ read_form form b out
+    pub read_refused : read_outcome (read_answer (refused n p)) out ≡ read_form form b out
     unfolding read_form
-    read_refused is = rw (is, fitting_refused)
+    read_refused = rw fitting_refused
 
   -- ---- a file that passes
 
@@ -79,11 +76,15 @@ module _ (form : Form) (b : List ℕ) where
 
     module _ (some : 1 ≤ form.numbers) where
       -- and what is left holds the quads.
-      quads_are : quads ≡ length (joined (groups_at form.numbers b (first_quads form.mark) 6))
+      quads_are : quads ≡ length (joined (groups_in form.numbers 6 (drop (first_quads form.mark) b)))
       quads_are =
-          let many : ℕ = length (joined (groups_at form.numbers b (first_quads form.mark) 6)) in
+          let many : ℕ = length (joined (groups_in form.numbers 6 (drop (first_quads form.mark) b))) in
           let bytes : length b - first_quads form.mark - 24 ≡ many * quad_size form.numbers = omega (arith, file_length form b file_passed) in
           rw bytes (mul-div_cancel many {n = quad_size form.numbers} (omega arith))
+
+      -- They have so many numbers.
+      pub numbers_are : quads * form.numbers ≡ length (joined (joined (groups_in form.numbers 6 (drop (first_quads form.mark) b))))
+      numbers_are = rw quads_are (sym (list_length form.numbers 6 (drop (first_quads form.mark) b)))
 
       quads_counted : quads ≡ quad_count (mesh_in form b)
       quads_counted = rw (mesh_at form b file_passed) quads_are
@@ -94,32 +95,29 @@ module _ (form : Form) (b : List ℕ) where
         fitting_left = rw (sym (whole_passes (read_checks form b) (mesh_in form b) passed refl), quads_counted)
 
         -- An output that holds fewer is refused by 9,
-        pub read_many : {r : ReadAnswer} → r ≡ read_answer (refused 9 (length out / form.numbers)) → length out / form.numbers < quads → read_outcome r out ≡ read_form form b out
+        pub read_many : length out / form.numbers < quads → read_outcome (read_answer (refused 9 (length out / form.numbers))) out ≡ read_form form b out
         unfolding read_form capacity
-        read_many is h = rw (is, fitting_left ∙ applies _ [] (mesh_in form b) (lt-ltb _ _ h))
+        read_many h = rw (fitting_left ∙ applies _ [] (mesh_in form b) (lt-ltb _ _ h))
 
         module _ (h : quads ≤ length out / form.numbers) where
           -- and any other has room for them,
-          pub read_room : Room (list_at form.numbers b (first_quads form.mark) 6) out 0
+          pub read_room : quads * form.numbers ≤ length out
           unfolding capacity
-          read_room =
-              let many : ℕ = length (joined (groups_at form.numbers b (first_quads form.mark) 6)) in
-              record { fits = omega (arith, list_length form.numbers 6 (drop (first_quads form.mark) b), group_held form.numbers (length out) many (omega (arith, quads_are))) }
+          read_room = group_held form.numbers (length out) quads h
 
           -- and holds them at the end.
-          pub read_done : {mesh : MeshAnswer} {counts : List ℕ} {faces : List OrientedBlockFace} {left : List ℕ}
-              → mesh ≡ mesh_answer (answer (too_many quads (length out / form.numbers)) counts)
-              → counts ≡ map length (groups_at form.numbers b (first_quads form.mark) 6)
+          pub read_done : {counts : List ℕ} {faces : List OrientedBlockFace} {taken : List ℕ}
+              → counts ≡ map length (groups_in form.numbers 6 (drop (first_quads form.mark) b))
               → faces ≡ map face_of (take 6 (drop 4 b))
-              → left ≡ overwritten (list_at form.numbers b (first_quads form.mark) 6) out
-              → read_outcome (record { mesh = mesh; faces = faces }) left ≡ read_form form b out
-          unfolding read_form capacity answer
-          read_done told is-counts is-faces is-left =
+              → taken ≡ joined (joined (groups_in form.numbers 6 (drop (first_quads form.mark) b)))
+              → read_outcome (record { mesh = mesh_answer (accepted counts); faces = faces }) (taken ++ drop (quads * form.numbers) out) ≡ read_form form b out
+          unfolding read_form capacity answer overwritten
+          read_done is-counts is-faces is-taken =
               rw (
-                told ∙ ap mesh_answer (passes _ [] _ (le-ltb _ _ h)),
                 is-counts,
                 is-faces,
-                is-left,
+                is-taken,
+                numbers_are,
                 fitting_left ∙ passes _ [] (mesh_in form b) (le-ltb _ _ h),
                 mesh_at form b file_passed,
               )

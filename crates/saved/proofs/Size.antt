@@ -19,7 +19,6 @@ use Rattle.saved.specs.Form.{Form, Mesh, quad_size, head_count, face_byte}
 use Rattle.saved.specs.Layout.{section_bytes, head_records, quad_bytes, group_bytes, bytes}
 use Rattle.saved.specs.Saved.{handed_mesh, file_of}
 use Rattle.saved.specs.Statements.{Countable, Ok}
-use Rattle.saved.specs.Private.{form_of}
 use Rattle.saved.proofs.Numbers.{written_length, written_bytes}
 use Rattle.saved.proofs.Items.{one_more}
 use Rattle.saved.proofs.FaceBytes.{face_byte_small}
@@ -88,10 +87,10 @@ module _ (numbers : ℕ) where
 
   -- So the file of one that passes has 34 bytes, those of the mark, and those of its quads.
   pub handed_size : (mark : List ℕ) (faces : List OrientedBlockFace) (counts list : List ℕ) → length faces ≡ 6 → length counts ≡ 6 → total counts ≤ capacity numbers (length list)
-      → length (file_of (form_of numbers mark) faces counts list) ≡ 34 + length mark + total counts * quad_size numbers
+      → length (file_of (record { numbers = numbers; mark = mark }) faces counts list) ≡ 34 + length mark + total counts * quad_size numbers
   unfolding handed_mesh head_count
   handed_size mark faces counts list f c held =
-      let form : Form = form_of numbers mark in
+      let form : Form = record { numbers = numbers; mark = mark } in
       let groups : List (List (List ℕ)) = Cut.groups_in numbers (take numbers) counts list in
       let quads : length (joined groups) ≡ total counts = groups_total (take numbers) counts list in
       long_size form (handed_mesh form faces counts list) f (groups_each (take numbers) counts list ∙ c) (groups_long counts list (group_held numbers (length list) (total counts) held))

@@ -8,7 +8,7 @@ use native.Mathlib.Nat.{zero-mul, mul-one}
 use native.Mathlib.Omega.{arith}
 use lib.Dec.{eqb, ltb, leb-suc-suc}
 use lib.ListN.{length, get_or, take, drop, length-append, length-drop, length-map, drop_of_length-le, get_or-append}
-use lib.Seq.{drop-drop, length-take-le, get_or-take, get_or-drop, get_or-append-add}
+use lib.Seq.{drop-length, drop-drop, length-take-le, get_or-take, get_or-drop, get_or-append-add}
 use borrow.Author.Tests.{ltb-true, ltb-false, lt-ltb}
 use Rattle.geometry.specs.Refusal.{Answer, accepted, refused, Check, at_place, answer, checked, and_then, follow}
 use Rattle.geometry.proofs.Refusals.{split, refused_number, refused_place, not_both, applies, passes, passes_alone, in_turn, answer_refused}
@@ -23,14 +23,26 @@ use Rattle.saved.specs.Form.{Form, Mesh, quad_size, head_count, face_of}
 use Rattle.saved.specs.Read.{count_in, extent_in, records_in, after_section, ends_early, bad_file, goes_on, wrong_head, section_checks, file_checks, face_bytes_in, quad_in, quads_in, groups_in, mesh_in, bad_face_byte, bad_face_bytes_from, bad_face_bytes, mesh_quads, bad_mesh, read_checks, parse}
 use Rattle.saved.specs.Saved.{quad_count, fitting}
 use Rattle.saved.specs.Where.{from_section_in, from_quad_in, from_section, from_quad, from_refusal, refusal_byte, First, standing, bad_section_in, bad_section}
-use Rattle.saved.specs.Private.{From}
 use Rattle.saved.proofs.Items.{one_more, pieces_length}
 use Rattle.saved.proofs.Pieces.{pieces_cut}
 use Rattle.saved.proofs.Section
 use Rattle.saved.proofs.Roundtrip.{section_0_whole, head_told}
-use Rattle.saved.proofs.Reaching.{from_byte, from_end, quad_in_lem, quad_past}
+use Rattle.saved.proofs.Reaching.{quad_in_lem, quad_past}
 
 -- ---- the bytes from a refusal's byte on
+
+-- A byte of a file, and the bytes from there on.
+pub record From (b : List ℕ) (at : ℕ) (rest : List ℕ) : Type 0 where
+  pub inside : at ≤ length b
+  pub is : drop at b ≡ rest
+
+-- A byte is as far in as fewer bytes are left from it on than there are,
+from_byte : {b : List ℕ} {at : ℕ} {rest : List ℕ} → From b at rest → at ≡ length b - length rest
+from_byte {b} {at} from = rw (← from.is, length-drop at b) (omega (arith, from.inside))
+
+-- and from the end on there is nothing.
+from_end : (b : List ℕ) {rest : List ℕ} → rest ≡ [] → From b (length b) rest
+from_end b e = record { inside = omega arith; is = drop-length b ∙ sym e }
 
 -- What is left of some bytes after a number of them.
 record Left (b rest : List ℕ) : Type 0 where

@@ -1,4 +1,4 @@
--- A walk over the sections of quads of a file that 16 does not refuse: what stands in the section at hand, and what is left after it. And how such a file begins, and how long it is.
+-- A walk over the sections of quads of a file that 16 does not refuse: what the section at hand has, and what is left after it. And how such a file begins, and how long it is.
 use mathlib.Core.Bool.{false}
 use mathlib.Core.List.{List, [], ◌∷◌, map}
 use mathlib.Core.Path.{◌≡◌, refl, ◌∙◌, ap}
@@ -11,69 +11,48 @@ use Rattle.geometry.specs.Refusal.{accepted, checked}
 use Rattle.geometry.proofs.Refusals.{first_passes, rest_accepts}
 use Rattle.voxels.proofs.Loops.{more, done}
 use Rattle.listing.specs.Listing.{joined}
-use Rattle.saved.specs.Bytes.{number32, pieces}
+use Rattle.saved.specs.Bytes.{read_all}
 use Rattle.saved.specs.Form.{Form, quad_size, head_count, face_of}
 use Rattle.saved.specs.Read.{count_in, extent_in, records_in, after_section, ends_early, bad_file, goes_on, section_checks, file_checks, face_bytes_in, quad_in, quads_in, groups_in, mesh_in}
-use Rattle.saved.specs.Private.{quads_at, groups_at, Walk}
+use Rattle.saved.specs.Private.{Walk}
 use Rattle.saved.proofs.Section.{count_there, records_there}
 use Rattle.saved.proofs.Items.{read_length}
-use Rattle.saved.proofs.Pieces.{pieces_cut}
 use Rattle.saved.proofs.Roundtrip.{head_and_rest, section_0_whole, head_told}
 
--- ---- a section from a byte on
+-- ---- the groups of sections
 
-module _ (numbers : ℕ) (b : List ℕ) (at : ℕ) where
-  -- The bytes after it,
-  after_at : after_section (quad_size numbers) (drop at b) ≡ drop (at + 4 + count_in (drop at b) * quad_size numbers) b
-  unfolding after_section
-  after_at = rw (drop-drop 4 at b, drop-drop (extent_in (quad_size numbers) (drop at b)) (at + 4) b)
+-- The quads of a section are read from its records,
+pub quads_are : (numbers : ℕ) (b : List ℕ) → quads_in numbers b ≡ read_all (quad_size numbers) (quad_in numbers) (count_in b) (records_in (quad_size numbers) b)
+unfolding quads_in
+quads_are numbers b = refl
 
-  -- and its quads, which stand after its count.
-  quads_at_lem : quads_in numbers (drop at b) ≡ quads_at numbers b (at + 4) (count_in (drop at b))
-  unfolding quads_in records_in
-  quads_at_lem =
-      ap (map (quad_in numbers))
-      (pieces_cut (quad_size numbers) (count_in (drop at b)) (extent_in (quad_size numbers) (drop at b)) (drop 4 (drop at b)) (omega arith)
-      ∙ ap (pieces (quad_size numbers) (count_in (drop at b))) (drop-drop 4 at b))
+-- as many as its count says;
+pub quads_count : (numbers : ℕ) (b : List ℕ) → length (quads_in numbers b) ≡ count_in b
+quads_count numbers b = ap length (quads_are numbers b) ∙ read_length (quad_size numbers) (quad_in numbers) (count_in b) (records_in (quad_size numbers) b)
+
+-- and the groups that are left are those quads, and those after them, or none.
+pub groups_next : (numbers k : ℕ) (b : List ℕ) → k < 6 → groups_in numbers (6 - k) b ≡ quads_in numbers b ∷ groups_in numbers (6 - (k + 1)) (after_section (quad_size numbers) b)
+unfolding groups_in
+groups_next numbers k b h = rw (more k 6 h)
+
+pub groups_none : (numbers k : ℕ) (b : List ℕ) → 6 ≤ k → groups_in numbers (6 - k) b ≡ []
+unfolding groups_in
+groups_none numbers k b h = rw (done k 6 h)
 
 -- ---- the walk
 
-module _ {numbers : ℕ} {b : List ℕ} {k at : ℕ} (w : Walk numbers b k at) (h : k < 6) where
-  here_and_after : checked (bad_file (k + 1) (ends_early (quad_size numbers) (drop at b)) ∷ section_checks (quad_size numbers) (k + 1 + 1) (6 - (k + 1)) (after_section (quad_size numbers) (drop at b))) ≡ accepted tt
+module _ {numbers k : ℕ} {b : List ℕ} (w : Walk numbers k b) (h : k < 6) where
+  here_and_after : checked (bad_file (k + 1) (ends_early (quad_size numbers) b) ∷ section_checks (quad_size numbers) (k + 1 + 1) (6 - (k + 1)) (after_section (quad_size numbers) b)) ≡ accepted tt
   unfolding section_checks
   here_and_after = rw (more k 6 h) at w.whole
 
-  here_whole : ends_early (quad_size numbers) (drop at b) ≡ false
-  here_whole = first_passes _ _ tt here_and_after
+  -- The section at hand is whole,
+  pub walk_whole : ends_early (quad_size numbers) b ≡ false
+  walk_whole = first_passes _ _ tt here_and_after
 
-  -- The count of the section at hand is there,
-  pub walk_count : at + 4 ≤ length b
-  walk_count = omega (arith, w.inside, count_there (quad_size numbers) (drop at b) here_whole, length-drop at b)
-
-  module _ {n : ℕ} (is : n ≡ number32 (drop at b)) where
-    -- its records are there,
-    pub walk_records : at + 4 + n * quad_size numbers ≤ length b
-    walk_records =
-        rw is (omega (arith, walk_count, records_there (quad_size numbers) (drop at b) here_whole, length-drop 4 (drop at b), length-drop at b))
-
-    -- after them the walk goes on,
-    pub walk_on : Walk numbers b (k + 1) (at + 4 + n * quad_size numbers)
-    walk_on =
-        record {
-          most = omega arith;
-          inside = walk_records;
-          whole = rw (is, ← after_at numbers b at) (rest_accepts (bad_file (k + 1) (ends_early (quad_size numbers) (drop at b))) _ tt here_and_after);
-        }
-
-    -- and the groups that are left are its quads, and those after it.
-    pub walk_groups : groups_at numbers b at (6 - k) ≡ quads_at numbers b (at + 4) n ∷ groups_at numbers b (at + 4 + n * quad_size numbers) (6 - (k + 1))
-    unfolding groups_in
-    walk_groups = rw (is, more k 6 h, quads_at_lem numbers b at, after_at numbers b at)
-
--- At the end there is none.
-pub walk_done : (numbers : ℕ) (b : List ℕ) (at k : ℕ) → 6 ≤ k → groups_at numbers b at (6 - k) ≡ []
-unfolding groups_in
-walk_done numbers b at k h = rw (done k 6 h)
+  -- and after it the walk goes on.
+  pub walk_on : {rest : List ℕ} → rest ≡ after_section (quad_size numbers) b → Walk numbers (k + 1) rest
+  walk_on is = record { most = omega arith; whole = rw is (rest_accepts (bad_file (k + 1) (ends_early (quad_size numbers) b)) _ tt here_and_after) }
 
 -- ---- how long a file is
 
@@ -82,7 +61,7 @@ none_left [] h = refl
 none_left (a ∷ b) h = cc
 
 -- A section that is whole: its count, its records, and what follows.
-after_length : (size : ℕ) (b : List ℕ) → ends_early size b ≡ false → length b ≡ 4 + count_in b * size + length (after_section size b)
+pub after_length : (size : ℕ) (b : List ℕ) → ends_early size b ≡ false → length b ≡ 4 + count_in b * size + length (after_section size b)
 unfolding after_section
 after_length size b e =
     omega (arith, count_there size b e, records_there size b e, length-drop 4 b, length-drop (extent_in size b) (drop 4 b))
@@ -131,16 +110,16 @@ module _ (form : Form) (b : List ℕ) (file : checked (file_checks form b) ≡ a
       let sum : 4 + (6 + length form.mark) ≡ first_quads form.mark = omega arith in
       rw (head_count_lem, mul-one, drop-drop (6 + length form.mark) 4 b, sum)
 
-  pub walk_start : Walk form.numbers b 0 (first_quads form.mark)
-  walk_start = record { most = omega arith; inside = head_inside; whole = rw (← after_head) (head_and_rest form b file).1 }
+  pub walk_start : Walk form.numbers 0 (drop (first_quads form.mark) b)
+  walk_start = record { most = omega arith; whole = rw (← after_head) (head_and_rest form b file).1 }
 
   -- So its mesh is,
-  pub mesh_at : mesh_in form b ≡ record { faces = map face_of (take 6 (drop 4 b)); groups = groups_at form.numbers b (first_quads form.mark) 6 }
+  pub mesh_at : mesh_in form b ≡ record { faces = map face_of (take 6 (drop 4 b)); groups = groups_in form.numbers 6 (drop (first_quads form.mark) b) }
   unfolding mesh_in
   mesh_at = rw (face_bytes_at, after_head)
 
   -- and so long it is.
-  pub file_length : length b ≡ first_quads form.mark + 24 + length (joined (groups_at form.numbers b (first_quads form.mark) 6)) * quad_size form.numbers
+  pub file_length : length b ≡ first_quads form.mark + 24 + length (joined (groups_in form.numbers 6 (drop (first_quads form.mark) b))) * quad_size form.numbers
   file_length =
       let quads = sections_length form.numbers 6 1 (after_section 1 b) (head_and_rest form b file).1 in
       let whole = after_length 1 b (section_0_whole form b file) in

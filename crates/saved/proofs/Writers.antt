@@ -13,12 +13,9 @@ use Rattle.geometry.specs.Refusal.{Answer, accepted, refused, Check, checked}
 use Rattle.geometry.specs.Lists.{Each}
 use Rattle.geometry.proofs.Refusals.{split, not_both}
 use Rattle.listing.specs.Listing.{overwritten}
-use Rattle.writing.specs.declared.written.WriteAnswer.{WriteAnswer}
 use Rattle.writing.specs.Handed.{handed_checks}
-use Rattle.writing.specs.Written.{WriteOutcome, outcome, refused_answer, accepted_answer, written_after}
+use Rattle.writing.specs.Written.{WriteAnswer, WriteOutcome, outcome, refused_answer, accepted_answer, written_after}
 use Rattle.writing.proofs.Outcome.{checks_refuse, short_refused, enough_written}
-use Rattle.obj.specs.Page.{Wrote}
-use Rattle.obj.proofs.Page.{wrote_end, wrote_whole}
 use Rattle.saved.specs.Leaves.{WriterLeaves, Writes}
 use Rattle.saved.proofs.Numbered.{never, writer_number, WriterCheck, handed_numbered}
 
@@ -44,20 +41,6 @@ module _ (checks : List Check) (bytes out : List ℕ) where
       split (ltb (length out) (length bytes))
       (λ t. let less = ltb-true _ _ t in rw (short_refused checks bytes out passed less) (short passed less))
       (λ f. let most = ltb-false _ _ f in rw (enough_written checks bytes out passed most) (enough passed most)))
-
-  -- ---- what a call has to show
-
-  -- It hands on a refusal of its checks,
-  pub call_refuses : {r : WriteAnswer} {n p : ℕ} → r ≡ refused_answer n p → checked checks ≡ refused n p → outcome r out ≡ written_after checks bytes out
-  call_refuses is e = ap (λ (r : WriteAnswer). outcome r out) is ∙ sym (checks_refuse checks bytes out e)
-
-  -- refuses by 15 bytes that are more than the output has,
-  pub call_short : {r : WriteAnswer} → r ≡ refused_answer 15 0 → checked checks ≡ accepted tt → length out < length bytes → outcome r out ≡ written_after checks bytes out
-  call_short is passed h = ap (λ (r : WriteAnswer). outcome r out) is ∙ sym (short_refused checks bytes out passed h)
-
-  -- and writes any others from the output's start, and answers where they end.
-  pub call_writes : {r : WriteAnswer} {n : ℕ} {last : List ℕ} → r ≡ accepted_answer n → Wrote bytes out 0 last n → checked checks ≡ accepted tt → length bytes ≤ length out → outcome r last ≡ written_after checks bytes out
-  call_writes is wrote passed h = rw (is, wrote_end wrote, wrote_whole h wrote) (sym (enough_written checks bytes out passed h))
 
   -- ---- what holds of it
 

@@ -1,67 +1,41 @@
 -- What is left of a file that is written: one number less of a list, one group less of a mesh. And the bytes of a group's quads are those of its numbers, one after another.
 use mathlib.Core.List.{List, [], ◌∷◌, ◌++◌, map, append_assoc}
-use mathlib.Core.Path.{◌≡◌, refl, sym, ap}
-use Prim.Native.Nat.{ℕ, zero, suc, ◌+◌, ◌-◌, ◌*◌, ◌≤◌, ◌<◌}
-use native.Mathlib.Nat.{not-suc-le-zero, zero-mul, add-mul}
+use mathlib.Core.Path.{◌≡◌, refl, sym, ◌∙◌, ap}
+use Prim.Native.Nat.{ℕ, zero, suc, ◌+◌, ◌*◌, ◌≤◌, ◌<◌}
+use native.Mathlib.Nat.{zero-mul, add-mul}
 use native.Mathlib.Omega.{arith}
-use lib.ListN.{length, get_or, take, drop, set, length-map, drop_of_length-le}
-use lib.Seq.{take-add, drop-drop}
+use lib.ListN.{length, get_or, take, drop, length-append, length-drop, length-map, drop_of_length-le}
+use lib.Seq.{take-add, drop-drop, length-take-le}
 use Rattle.geometry.specs.declared.face.OrientedBlockFace.{OrientedBlockFace}
 use Rattle.voxels.proofs.Asked.{drop_next}
 use Rattle.listing.specs.Listing.{joined, capacity}
 use Rattle.listing.specs.Cut
 use Rattle.listing.specs.Cut.{items_in}
-use Rattle.listing.specs.Pushed.{set_all}
 use Rattle.writing.specs.Handed.{most_quads}
 use Rattle.writing.specs.Statements.{Passes}
-use Rattle.obj.proofs.Page.{bytes_next}
-use Rattle.writing.proofs.Rest.{Walking, walking_most}
+use Rattle.writing.proofs.Rest.{Walking, walking_most, group_held}
 use Rattle.saved.specs.Bytes.{written32, written_all}
 use Rattle.saved.specs.Form.{head_count, face_byte}
 use Rattle.saved.specs.Layout.{head_records, quad_bytes, group_bytes, bytes}
 use Rattle.saved.specs.Saved.{handed_mesh, file_of}
-use Rattle.saved.specs.Private.{form_of, head_bytes, list_bytes}
+use Rattle.saved.specs.Private.{head_bytes, group_at}
+use Rattle.saved.proofs.Numbers.{written_length}
 use Rattle.saved.proofs.Items.{one_more}
 
--- ---- face bytes
+-- Of items that are written one after another: one, and those that are left.
+pub items_next : {A : Type 0} (write : A → List ℕ) (l : List A) (k : ℕ) (d : A) → k < length l → written_all write (drop k l) ≡ write (get_or l k d) ++ written_all write (drop (k + 1) l)
+unfolding joined
+items_next write l k d h = rw (drop_next l k d h)
 
-map_at : {A : Type 0} (f : A → ℕ) (l : List A) (k : ℕ) (d : A) (z : ℕ) → k < length l → f (get_or l k d) ≡ get_or (map f l) k z
-map_at f [] k d z h = absurd (not-suc-le-zero h)
-map_at f (a ∷ l) zero d z h = refl
-map_at f (a ∷ l) (suc k) d z h = map_at f l k d z (omega arith)
+pub items_none : {A : Type 0} (write : A → List ℕ) (l : List A) (k : ℕ) → length l ≤ k → written_all write (drop k l) ≡ []
+unfolding joined
+items_none write l k h = rw (drop_of_length-le l h)
 
--- Of the bytes of the first k faces, one more.
-pub face_next : (faces : List OrientedBlockFace) (out : List ℕ) (at k : ℕ) (d : OrientedBlockFace) {b : ℕ} {o : List ℕ} → k < length faces → b ≡ face_byte (get_or faces k d) → o ≡ set_all out at (take k (map face_byte faces))
-    → set o (at + k) b ≡ set_all out at (take (k + 1) (map face_byte faces))
-face_next faces out at k d h is e =
-    let byte : face_byte (get_or faces k d) ≡ get_or (map face_byte faces) k 0 = map_at face_byte faces k d 0 h in
-    rw (e, is, byte) (bytes_next (map face_byte faces) out at k (rw length-map h))
-
--- ---- the numbers of a list
-
-module _ (list : List ℕ) (from count : ℕ) where
-  -- What is written of the numbers that are left, where k of them are done: all at the start,
-  abbrev pub numbers_left : ℕ → List ℕ
-  numbers_left k = list_bytes list (from + k) (count - k)
-
-  pub numbers_start : numbers_left 0 ≡ list_bytes list from count
-  numbers_start =
-      let none : from + 0 ≡ from = omega arith in
-      let all : count - 0 ≡ count = omega arith in
-      rw (none, all)
-
-  -- then one number and what is left after it,
-  pub numbers_next : (k : ℕ) → k < count → from + count ≤ length list → numbers_left k ≡ written32 (get_or list (from + k) 0) ++ numbers_left (k + 1)
-  unfolding joined
-  numbers_next k h held =
-      let more : count - k ≡ suc (count - (k + 1)) = omega arith in
-      let next : from + k + 1 ≡ from + (k + 1) = omega arith in
-      rw (more, drop_next list (from + k) 0 (omega arith), next)
-
-  -- and nothing at the end.
-  pub numbers_done : (k : ℕ) → count ≤ k → numbers_left k ≡ []
-  unfolding joined
-  numbers_done k h = let none : count - k ≡ zero = omega arith in rw none
+-- Numbers have four bytes each.
+pub numbers_long : (l : List ℕ) → length (written_all written32 l) ≡ length l * 4
+unfolding joined
+numbers_long [] = refl
+numbers_long (n ∷ l) = length-append (written32 n) (written_all written32 l) ∙ omega (arith, written_length 4 n, numbers_long l)
 
 -- ---- the quads of a group
 
@@ -84,14 +58,21 @@ quads_flat numbers zero l = rw zero-mul
 quads_flat numbers (suc count) l =
     rw (one_more count numbers, take-add numbers (count * numbers) l, all_append written32 (take numbers l) (take (count * numbers) (drop numbers l)), quads_flat numbers count (drop numbers l))
 
--- The section of a group: so many quads, after so many of the groups before.
-abbrev pub group_at : ℕ → List ℕ → ℕ → ℕ → List ℕ
-group_at numbers list first count = group_bytes (items_in numbers (take numbers) count (drop (first * numbers) list))
-
 -- It is its count, and then the numbers of its quads.
-pub group_flat : (numbers : ℕ) (list : List ℕ) (first count : ℕ) → group_at numbers list first count ≡ written32 count ++ list_bytes list (first * numbers) (count * numbers)
+pub group_flat : (numbers : ℕ) (list : List ℕ) (first count : ℕ) → group_at numbers list first count ≡ written32 count ++ written_all written32 (take (count * numbers) (drop (first * numbers) list))
 unfolding group_bytes
 group_flat numbers list first count = rw (items_count numbers (take numbers) count (drop (first * numbers) list), quads_flat numbers count (drop (first * numbers) list))
+
+module _ (numbers : ℕ) (list : List ℕ) (first count : ℕ) where
+  -- The numbers of its quads are the list's,
+  pub held_numbers : first + count ≤ capacity numbers (length list) → first * numbers + count * numbers ≤ length list
+  held_numbers h = omega (arith, group_held numbers (length list) (first + count) h, add-mul first count numbers)
+
+  -- and so long it is.
+  pub group_long : first * numbers + count * numbers ≤ length list → length (group_at numbers list first count) ≡ 4 + count * numbers * 4
+  group_long h =
+      ap length (group_flat numbers list first count) ∙ length-append (written32 count) _
+      ∙ omega (arith, written_length 4 count, numbers_long (take (count * numbers) (drop (first * numbers) list)), length-take-le (count * numbers) (drop (first * numbers) list) (rw length-drop (omega arith)))
 
 -- ---- the groups of a mesh
 
@@ -116,10 +97,16 @@ module _ (numbers : ℕ) (list counts : List ℕ) where
   unfolding joined Cut.groups_in
   groups_done first k h = rw (drop_of_length-le counts h)
 
-  -- At the start it is the file after section 0.
-  pub file_start : (mark : List ℕ) (faces : List OrientedBlockFace) → file_of (form_of numbers mark) faces counts list ≡ head_bytes mark faces ++ groups_left 0 0
+  -- At the start they are the file after section 0.
+  pub file_start : (mark : List ℕ) (faces : List OrientedBlockFace) → file_of (record { numbers = numbers; mark = mark }) faces counts list ≡ head_bytes mark faces ++ groups_left 0 0
   unfolding bytes handed_mesh head_records head_count
   file_start mark faces = let none : 0 * numbers ≡ 0 = zero-mul numbers in rw none
+
+-- Section 0 has its count, the face bytes and the mark.
+pub head_long : (mark : List ℕ) (faces : List OrientedBlockFace) → length faces ≡ 6 → length (head_bytes mark faces) ≡ 10 + length mark
+head_long mark faces six =
+    length-append (written32 (6 + length mark)) (map face_byte faces ++ mark)
+    ∙ omega (arith, six, written_length 4 (6 + length mark), length-append (map face_byte faces) mark, length-map faces face_byte)
 
 -- Of a mesh that passes the quads of the groups so far and of the one at hand are the list's, and few.
 module _ {numbers : ℕ} {faces : List OrientedBlockFace} {counts list : List ℕ} (p : Passes numbers faces counts list) {first k : ℕ} (w : Walking faces counts first k) (h : k < 6) where

@@ -1,5 +1,5 @@
 -- A saved form, what is saved in it, and face bytes: document 02, second request. Another form has "the same sections and refusals" (its ninth request): a form says what differs. The Rust saves nothing.
-use Rattle.std.specs.Prelude.{true, false, List, [], ℕ, ◌+◌, ◌-◌, ◌*◌, ltb, ℤ, length, get_or}
+use Rattle.std.specs.Prelude.{true, false, List, [], ℕ, ◌+◌, ◌-◌, ◌*◌, ◌≤◌, ltb, ℤ, length, get_or}
 use Rattle.geometry.specs.declared.axis.AxisPermutation.TheVariants.{Xyz}
 use Rattle.geometry.specs.declared.face.OrientedBlockFace.{OrientedBlockFace}
 use Rattle.geometry.specs.Axes.{same, one, minus_one, bit, permutations, permutation_number}
@@ -12,6 +12,12 @@ pub record Form : Type 0 where
 -- This request's form: "five 32-bit numbers each", and nothing after the face bytes.
 abbrev pub first_form : Form
 first_form = record { numbers = 5; mark = [] }
+
+-- A form that the code is made for: quads of five numbers or a few more, and a short mark.
+pub record FormFits (numbers : ℕ) (mark : List ℕ) : Type 0 where
+  pub five : 5 ≤ numbers
+  pub few : numbers ≤ 6
+  pub short : length mark ≤ 1
 
 -- How many bytes a quad of so many numbers has.
 abbrev pub quad_size : ℕ → ℕ

@@ -2,8 +2,7 @@
 use Rattle.std.specs.Prelude.{List, ◌≡◌, ℕ, ◌≤◌, ◌<◌, length, take, drop}
 use Rattle.geometry.specs.Refusal.{accepted, Check, checked}
 use Rattle.listing.specs.Listing.{overwritten}
-use Rattle.writing.specs.declared.written.WriteAnswer.{WriteAnswer}
-use Rattle.writing.specs.Written.{refused_answer, accepted_answer}
+use Rattle.writing.specs.Written.{WriteAnswer, refused_answer, accepted_answer}
 
 -- Of any writer with such bytes after such checks, by its answer and its output at exit (`writer_leaves`; after the checks of a mesh that is handed in `handed_leaves`):
 pub record WriterLeaves (checks : List Check) (new out : List ℕ) (r : WriteAnswer) (last : List ℕ) : Type 0 where

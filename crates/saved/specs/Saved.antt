@@ -5,11 +5,11 @@ use Rattle.geometry.specs.declared.face.OrientedBlockFace.{OrientedBlockFace}
 use Rattle.geometry.specs.Axes.{one}
 use Rattle.geometry.specs.Refusal.{Answer, accepted, refused, Check, answer, and_then}
 use Rattle.listing.specs.Listing.{joined, overwritten, capacity, too_many}
-use Rattle.listing.specs.Outcome.{mesh_answer}
+use Rattle.listing.specs.Outcome.{MeshAnswer, mesh_answer}
 use Rattle.listing.specs.Cut
 use Rattle.writing.specs.Handed.{five_checks}
 use Rattle.writing.specs.Written.{WriteOutcome, written_after}
-use Rattle.saved.specs.declared.ReadAnswer.{ReadAnswer}
+use Rattle.saved.specs.declared.SavedMesh.{SavedMesh}
 use Rattle.saved.specs.Form.{Form, first_form, Mesh}
 use Rattle.saved.specs.Layout.{bytes}
 use Rattle.saved.specs.Read.{parse}
@@ -50,10 +50,20 @@ fitting form b long = and_then (parse form b) (λ (m : Mesh). answer (too_many (
 abbrev pub no_faces : List OrientedBlockFace
 no_faces = replicate 6 (record { n_sign = one; permutation = Xyz })
 
+-- Document 02's answer of a reader: the refusal number, its place and the counts, and the six faces.
+pub record ReadAnswer : Type 0 where
+  pub mesh : MeshAnswer
+  pub faces : List OrientedBlockFace
+
 -- What a reader answers: the faces and the six counts, or the refusal, "zeros for all counts" and no faces.
 abbrev pub read_answer : Answer Mesh → ReadAnswer
 read_answer (accepted m) = record { mesh = mesh_answer (accepted (map length m.groups)); faces = m.faces }
 read_answer (refused n p) = record { mesh = mesh_answer (refused n p); faces = no_faces }
+
+-- The same of the faces and the counts. In the code a reader gives a `Result`, whose value is these: what it means (geometry's `meaning`) is made the answer here.
+abbrev pub reader_answer : Answer SavedMesh → ReadAnswer
+reader_answer (accepted m) = record { mesh = mesh_answer (accepted m.counts); faces = m.faces }
+reader_answer (refused n p) = record { mesh = mesh_answer (refused n p); faces = no_faces }
 
 -- What it leaves in the output: the quads at its start, and what is past them stays; or, by any refusal, 9 among them, what was there: "Refusals change nothing."
 abbrev pub read_out : Answer Mesh → List ℕ → List ℕ

@@ -6,15 +6,13 @@ use Rattle.geometry.specs.Refusal.{accepted, refused, checked}
 use Rattle.geometry.specs.Lists.{Each}
 use Rattle.listing.specs.Listing.{overwritten, capacity}
 use Rattle.listing.specs.Outcome.{mesh_answer}
-use Rattle.writing.specs.declared.written.WriteAnswer.{WriteAnswer}
 use Rattle.writing.specs.Handed.{total, most_quads, five_checks}
-use Rattle.writing.specs.Written.{refused_answer, accepted_answer}
+use Rattle.writing.specs.Written.{WriteAnswer, refused_answer, accepted_answer}
 use Rattle.writing.specs.Statements.{WithinQuad}
 use Rattle.saved.specs.Leaves.{WriterLeaves}
-use Rattle.saved.specs.declared.ReadAnswer.{ReadAnswer}
 use Rattle.saved.specs.Form.{Form, first_form, Mesh}
 use Rattle.saved.specs.Read.{mesh_quads, read_checks, parse}
-use Rattle.saved.specs.Saved.{handed_mesh, file_of, no_faces, read_answer}
+use Rattle.saved.specs.Saved.{handed_mesh, file_of, no_faces, ReadAnswer, read_answer}
 
 -- ---- a mesh that can be saved
 

@@ -3,30 +3,33 @@ ghost use Rattle.std.specs.Prelude.{◌≡◌, ◌∷◌, [], map, ◌≤◌, le
 ghost use Rattle.geometry.specs.declared.axis.AxisPermutation.TheVariants.{Xyz};
 ghost use Rattle.geometry.specs.Axes.{permutations};
 ghost use Rattle.geometry.specs.Refusal.{checked};
-ghost use Rattle.geometry.specs.Answers.{check_meaning};
+ghost use Rattle.geometry.specs.Answers.{meaning};
 ghost use Rattle.saved.specs.Form.{face_byte, without_sign, face_of};
 ghost use Rattle.saved.specs.Read.{bad_face_byte, bad_face_bytes};
 
-use geometry::axis::{AxisPermutation, PermutationAnswer};
+use geometry::axis::AxisPermutation;
 use geometry::face::OrientedBlockFace;
-use geometry::refusal::CheckAnswer;
+use geometry::refusal::Refusal;
 
 // What a byte has for a sign of -1.
 const MINUS: u8 = 8;
-
-// The byte where the face bytes begin, after section 0's count.
-const FIRST: usize = 4;
 
 // The byte of a face.
 pub(crate) fn of_face(face: OrientedBlockFace) -> u8
     ensures { result ≡ face_byte face }
 {
-    let permutation = face.permutation;
-    let number = permutation.number() as u8;
+    let number = u32::from(face.permutation) as u8;
     if face.n_sign == -1 {
         return number + MINUS;
     }
     number
+}
+
+// The bytes of six faces.
+pub(crate) fn of_faces(faces: [OrientedBlockFace; 6]) -> [u8; 6]
+    ensures { result ≡ map face_byte faces }
+{
+    faces.map(of_face)
 }
 
 // The permutation's number in a byte.
@@ -43,10 +46,7 @@ fn number(byte: u8) -> u32
 fn permutation(byte: u8) -> AxisPermutation
     ensures { result ≡ get_or permutations (without_sign byte) Xyz }
 {
-    match AxisPermutation::from_number(number(byte)) {
-        PermutationAnswer::Permutation(found) => found,
-        PermutationAnswer::Refused(_) => AxisPermutation::Xyz,
-    }
+    AxisPermutation::try_from(number(byte)).unwrap_or(AxisPermutation::Xyz)
 }
 
 // The face of a byte.
@@ -67,32 +67,24 @@ fn face(byte: u8) -> OrientedBlockFace
 }
 
 // The check of one byte.
-fn check_byte(byte: u8) -> CheckAnswer
-    ensures { check_meaning result ≡ checked (bad_face_byte byte ∷ []) }
+fn check_byte(byte: u8) -> Result<(), Refusal>
+    ensures { meaning result ≡ checked (bad_face_byte byte ∷ []) }
 {
-    match AxisPermutation::from_number(number(byte)) {
-        PermutationAnswer::Permutation(_) => CheckAnswer::Passed,
-        PermutationAnswer::Refused(refusal) => CheckAnswer::Refused(refusal, 0),
-    }
+    AxisPermutation::try_from(number(byte))?;
+    Ok(())
 }
 
 // The check of a file's six face bytes: the first outside the code is refused, with its number.
-pub(crate) fn check(bytes: &[u8]) -> CheckAnswer
+pub(crate) fn check(bytes: &[u8]) -> Result<(), Refusal>
     requires { 10 ≤ length bytes.now }
-    ensures { check_meaning result ≡ checked (bad_face_bytes (take 6 (drop 4 bytes.now))) }
+    ensures { meaning result ≡ checked (bad_face_bytes (take 6 (drop 4 bytes.now))) }
 {
-    let mut k: usize = 0;
-    while k < 6 {
-        let at = FIRST + k;
-        match check_byte(bytes[at]) {
-            CheckAnswer::Refused(number, _) => {
-                return CheckAnswer::Refused(number, k as u64);
-            }
-            CheckAnswer::Passed => {}
+    for (k, byte) in bytes[4..10].iter().enumerate() {
+        if let Err(refusal) = check_byte(*byte) {
+            return Err(refusal.reason.at(k as u64));
         }
-        k += 1;
     }
-    CheckAnswer::Passed
+    Ok(())
 }
 
 // The six faces of a file.
@@ -100,12 +92,5 @@ pub(crate) fn faces(bytes: &[u8]) -> [OrientedBlockFace; 6]
     requires { 10 ≤ length bytes.now }
     ensures { result ≡ map face_of (take 6 (drop 4 bytes.now)) }
 {
-    [
-        face(bytes[4]),
-        face(bytes[5]),
-        face(bytes[6]),
-        face(bytes[7]),
-        face(bytes[8]),
-        face(bytes[9]),
-    ]
+    [bytes[4], bytes[5], bytes[6], bytes[7], bytes[8], bytes[9]].map(face)
 }

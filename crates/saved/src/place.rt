@@ -1,116 +1,109 @@
-// Where in a file a refusal of its reader stands. Each function answers a byte by the bytes from there
-// on; where there are none it is the file's end.
-ghost use Rattle.std.specs.Prelude.{◌*◌, ◌≤◌, length, drop};
+// Where in a file a refusal of its reader stands. Each function answers what is left of the file from
+// there on, which is nothing where it has no such byte.
+ghost use Rattle.std.specs.Prelude.{◌≡◌, ◌*◌, drop};
 ghost use Rattle.saved.specs.Read.{after_section};
+ghost use Rattle.saved.specs.Where as spec;
 ghost use Rattle.saved.specs.Where.{from_section, from_face, from_quad, from_refusal};
-ghost use Rattle.saved.specs.Private.{From};
+ghost use Rattle.saved.specs.Private.{form_of};
 
-use crate::{FILE, number};
-use geometry::refusal;
+use crate::form::SavedForm;
+use crate::number;
+use geometry::refusal::Reason;
 
-// The byte so many records after another.
-fn within(bytes: &[u8], at: usize, size: usize, records: usize) -> usize
-    requires at_in_bounds { at ≤ length bytes.now }
-    requires le_size { 1 ≤ size }
-    ensures { From bytes.now result (drop (records * size) (drop at bytes.now)) }
+// The numbers of what a file is refused for.
+const FILE: u32 = Reason::File as u32;
+
+const NO_SUCH_NUMBER: u32 = Reason::NoSuchNumber as u32;
+
+const QUAD_LIMITS: u32 = Reason::QuadLimits as u32;
+
+// How many sections of quads there are.
+const SECTIONS: usize = 6;
+
+// What is left after so many bytes.
+fn past(bytes: &[u8], n: usize) -> &[u8]
+    ensures { result.now ≡ drop n bytes.now }
 {
-    let rest = bytes.len() - at;
-    if rest / size < records {
-        return bytes.len();
-    }
-    at + records * size
+    &bytes[n.min(bytes.len())..]
 }
 
-// The byte after a section.
-fn after(bytes: &[u8], at: usize, size: usize) -> usize
-    requires at_in_bounds { at ≤ length bytes.now }
-    requires le_size { 1 ≤ size }
-    ensures { From bytes.now result (after_section size (drop at bytes.now)) }
+// What is left after so many records.
+fn within(bytes: &[u8], size: usize, records: usize) -> &[u8]
+    ensures { result.now ≡ drop (records * size) bytes.now }
 {
-    let rest = bytes.len() - at;
-    if rest < 4 {
-        return bytes.len();
-    }
-    let count = number::at(bytes, at) as usize;
-    within(bytes, at + 4, size, count)
+    past(bytes, records.saturating_mul(size))
 }
 
-// The byte where a section begins, or the first past section 6.
-fn section(bytes: &[u8], numbers: usize, section: u64) -> usize
-    requires { (1 ≤ numbers) × (numbers ≤ 6) }
-    ensures { From bytes.now result (from_section numbers section bytes.now) }
+// What is left after a section.
+fn after(bytes: &[u8], size: usize) -> &[u8]
+    ensures { result.now ≡ after_section size bytes.now }
+{
+    if bytes.len() < 4 {
+        return &[];
+    }
+    let count = number::get(bytes) as usize;
+    within(&bytes[4..], size, count)
+}
+
+// From where a section begins, or from the first byte past section 6.
+fn section(form: SavedForm, bytes: &[u8], section: u64) -> &[u8]
+    ensures { result.now ≡ from_section form.numbers section bytes.now }
 {
     if section == 0 {
-        return 0;
+        return bytes;
     }
-    let size = numbers * 4;
-    let mut at = after(bytes, 0, 1);
-    let mut left = section - 1;
-    let mut k: usize = 0;
-    while k < 6 {
-        if left == 0 {
-            return at;
-        }
-        at = after(bytes, at, size);
-        left -= 1;
-        k += 1;
+    let size = form.quad_size();
+    let mut rest = after(bytes, 1);
+    for _ in 1..section.min(7) {
+        rest = after(rest, size);
     }
-    at
+    rest
 }
 
-// The byte where a face byte stands.
-fn face(bytes: &[u8], face: u64) -> usize
-    ensures { From bytes.now result (from_face face bytes.now) }
+// From a face byte.
+fn face(bytes: &[u8], face: u64) -> &[u8]
+    ensures { result.now ≡ from_face face bytes.now }
 {
-    let long = bytes.len();
-    if long < 4 {
-        return long;
-    }
-    let most = (long - 4) as u64;
-    if most < face {
-        return long;
-    }
-    4 + face as usize
+    past(past(bytes, 4), face as usize)
 }
 
-// The byte where a quad begins.
-fn quad(bytes: &[u8], numbers: usize, quad: u64) -> usize
-    requires { (1 ≤ numbers) × (numbers ≤ 6) }
-    ensures { From bytes.now result (from_quad numbers quad bytes.now) }
+// From where a quad begins.
+fn quad(form: SavedForm, bytes: &[u8], quad: u64) -> &[u8]
+    ensures { result.now ≡ from_quad form.numbers quad bytes.now }
 {
-    let size = numbers * 4;
-    let mut at = after(bytes, 0, 1);
+    let size = form.quad_size();
+    let mut rest = after(bytes, 1);
     let mut left = quad;
-    let mut k: usize = 0;
-    while k < 6 {
-        let rest = bytes.len() - at;
-        if rest < 4 {
-            return bytes.len();
+    for _ in 0..SECTIONS {
+        if rest.len() < 4 {
+            return &[];
         }
-        let count = number::at(bytes, at) as u64;
+        let count = number::get(rest) as u64;
         if left < count {
-            return within(bytes, at + 4, size, left as usize);
+            return within(&rest[4..], size, left as usize);
         }
-        at = after(bytes, at, size);
         left -= count;
-        k += 1;
+        rest = after(rest, size);
     }
-    at
+    rest
 }
 
-// The byte where a refusal stands, in a file whose quads have so many numbers.
-pub(crate) fn byte(bytes: &[u8], numbers: usize, number: u32, place: u64) -> u64
-    requires { (1 ≤ numbers) × (numbers ≤ 6) }
-    ensures { From bytes.now result (from_refusal numbers number place bytes.now) }
+// From where a refusal stands.
+fn standing(form: SavedForm, bytes: &[u8], number: u32, place: u64) -> &[u8]
+    ensures { result.now ≡ from_refusal form.numbers number place bytes.now }
 {
-    if number == FILE {
-        return section(bytes, numbers, place) as u64;
+    match number {
+        FILE => section(form, bytes, place),
+        NO_SUCH_NUMBER => face(bytes, place),
+        QUAD_LIMITS => quad(form, bytes, place),
+        _ => bytes,
     }
-    if number == refusal::NO_SUCH_NUMBER {
-        return face(bytes, place) as u64;
-    }
-    if number == refusal::QUAD_LIMITS {
-        return quad(bytes, numbers, place) as u64;
-    }
-    0
+}
+
+// The byte where a refusal stands.
+pub(crate) fn byte(form: SavedForm, bytes: &[u8], number: u32, place: u64) -> u64
+    ensures { result ≡ spec.refusal_byte (form_of form) number place bytes.now }
+{
+    let left = standing(form, bytes, number, place);
+    (bytes.len() - left.len()) as u64
 }

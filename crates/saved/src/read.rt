@@ -1,24 +1,22 @@
 // Reads a file of a form. The sections are looked at first, then the face bytes, then the quads, so that
 // nothing of a file that is refused has been written.
-ghost use Rattle.std.specs.Prelude.{map, ◌≡◌, ◌+◌, ◌*◌, ◌≤◌, length};
-ghost use Rattle.geometry.specs.Refusal as answers;
+ghost use Rattle.std.specs.Prelude.{map, ◌≡◌, ◌+◌, ◌*◌, ◌^◌, ◌<◌, ◌≤◌, length};
 ghost use Rattle.geometry.specs.Refusal.{checked};
-ghost use Rattle.geometry.specs.Answers.{check_meaning};
+ghost use Rattle.geometry.specs.Answers.{meaning};
 ghost use Rattle.geometry.specs.Quad.{side_within_limits};
-ghost use Rattle.listing.specs.Listing.{overwritten};
-ghost use Rattle.obj.specs.Page.{Wrote, Room};
-ghost use Rattle.saved.specs.Read.{read_checks};
-ghost use Rattle.saved.specs.Saved.{read_answer, read_outcome, read_form};
-ghost use Rattle.saved.specs.Private.{form_of, FormFits, Walk, numbers_at, fits_at, bad_quads_at, groups_at, list_at, bad_groups_at};
+ghost use Rattle.listing.specs.Listing.{joined};
+ghost use Rattle.saved.specs.Bytes.{number32, read_all};
+ghost use Rattle.saved.specs.Form.{quad_size};
+ghost use Rattle.saved.specs.Read.{groups_in, read_checks};
+ghost use Rattle.saved.specs.Saved.{reader_answer, read_outcome, read_form};
+ghost use Rattle.saved.specs.Private.{form_of, Walk, fits_in, bad_quads_of, bad_groups_of};
 
-use crate::{ReadAnswer, face_byte, number, sections};
-use geometry::axis::AxisPermutation;
+use crate::form::SavedForm;
+use crate::sections::Section;
+use crate::{SavedMesh, face_byte, number, sections};
+use geometry::LARGEST_AXIS;
 use geometry::face::OrientedBlockFace;
-use geometry::refusal::CheckAnswer;
-use geometry::{LARGEST_AXIS, refusal};
-
-// The bytes of section 0's count and of the face bytes: what stands before a form's mark.
-const HEAD: usize = 10;
+use geometry::refusal::{Reason, Refusal};
 
 // The bytes of the counts of sections 1 to 6.
 const COUNTS: usize = 24;
@@ -34,41 +32,38 @@ fn side_fits(start: u32, side: u32) -> bool
     end <= LARGEST_AXIS as u64
 }
 
-// Whether the quad that stands in a file from a byte on is within the limits. Its coordinates along u
-// and v stand so many bytes on; a coordinate is within the limits where a side of 1 is.
-fn quad_fits(bytes: &[u8], at: usize, u: usize, v: usize) -> bool
-    requires at_in_bounds { at + 20 ≤ length bytes.now }
+// Whether the quad of some bytes is within the limits. Its coordinates along u and v stand so many bytes
+// on; a coordinate is within the limits where a side of 1 is.
+fn quad_fits(quad: &[u8], u: usize, v: usize) -> bool
+    requires quad_in_bounds { 20 ≤ length quad.now }
     requires u_bound { (u ≤ 8) × (v ≤ 8) }
-    ensures { result ≡ fits_at bytes.now at u v }
+    ensures { result ≡ fits_in quad.now u v }
 {
-    if !side_fits(number::at(bytes, at), 1) {
+    if !side_fits(number::get(quad), 1) {
         return false;
     }
-    if !side_fits(number::at(bytes, at + 4), 1) {
+    if !side_fits(number::get(&quad[4..]), 1) {
         return false;
     }
-    if !side_fits(number::at(bytes, at + 8), 1) {
+    if !side_fits(number::get(&quad[8..]), 1) {
         return false;
     }
-    if !side_fits(number::at(bytes, at + u), number::at(bytes, at + 12)) {
+    if !side_fits(number::get(&quad[u..]), number::get(&quad[12..])) {
         return false;
     }
-    side_fits(number::at(bytes, at + v), number::at(bytes, at + 16))
+    side_fits(number::get(&quad[v..]), number::get(&quad[16..]))
 }
 
-// Check 12 of the quads of a section: so many on a face, the first of them the file's quad `first`.
+// Check 12 of the quads of a section, on a face, the first of them the file's quad `first`.
 fn check_group(
+    form: SavedForm,
     face: OrientedBlockFace,
-    bytes: &[u8],
-    start: usize,
-    numbers: usize,
+    section: Section<'_>,
     first: usize,
-    count: usize,
-) -> CheckAnswer
-    requires le_numbers { (5 ≤ numbers) × (numbers ≤ 6) }
-    requires first_le_start { first ≤ start }
-    requires numbers_in_bounds { start + count * (numbers * 4) ≤ length bytes.now }
-    ensures { check_meaning result ≡ checked (bad_quads_at numbers bytes.now face first start count) }
+) -> Result<(), Refusal>
+    requires exact { length section.records.now ≡ section.count * quad_size form.numbers }
+    requires first_bound { first + length section.records.now < 2 ^ 63 }
+    ensures { meaning result ≡ checked (bad_quads_of form.numbers face first section.entry.count section.entry.records.now) }
 {
     let permutation = face.permutation;
     let axes = permutation.axes();
@@ -76,155 +71,88 @@ fn check_group(
     let v_axis = axes.v;
     let u = 4 * u_axis.index();
     let v = 4 * v_axis.index();
-    let size = numbers * 4;
-    let mut k: usize = 0;
-    let mut at = start;
-    while k < count {
-        if !quad_fits(bytes, at, u, v) {
+    let size = form.quad_size();
+    for (k, quad) in section.records.chunks_exact(size).enumerate() {
+        if !quad_fits(quad, u, v) {
             let place = first + k;
-            return CheckAnswer::Refused(refusal::QUAD_LIMITS, place as u64);
+            return Err(Reason::QuadLimits.at(place as u64));
         }
-        at += size;
-        k += 1;
     }
-    CheckAnswer::Passed
+    Ok(())
 }
 
 // Check 12 of six sections, of a file that has passed 16.
-fn check_groups(
-    faces: [OrientedBlockFace; 6],
-    bytes: &[u8],
-    start: usize,
-    numbers: usize,
-) -> CheckAnswer
-    requires le_numbers { (5 ≤ numbers) × (numbers ≤ 6) }
-    requires walk { Walk numbers bytes.now 0 start }
-    ensures { check_meaning result ≡ checked (bad_groups_at numbers bytes.now faces 0 start 6) }
+fn check_groups(form: SavedForm, faces: [OrientedBlockFace; 6], bytes: &[u8]) -> Result<(), Refusal>
+    requires { Walk form.numbers 0 bytes.now }
+    ensures { meaning result ≡ checked (bad_groups_of form.numbers faces 0 6 bytes.now) }
 {
-    let size = numbers * 4;
-    let mut at = start;
+    let size = form.quad_size();
+    let mut rest = bytes;
     let mut first: usize = 0;
-    let mut k: usize = 0;
-    while k < 6 {
-        let face = faces[k];
-        let count = number::at(bytes, at) as usize;
-        let records = at + 4;
-        match check_group(face, bytes, records, numbers, first, count) {
-            CheckAnswer::Refused(number, place) => {
-                return CheckAnswer::Refused(number, place);
-            }
-            CheckAnswer::Passed => {}
-        }
-        let extent = count * size;
-        at = records + extent;
-        first += count;
-        k += 1;
+    for face in faces {
+        let section = Section::first(rest, size);
+        check_group(form, face, section, first)?;
+        first += section.count;
+        rest = section.after;
     }
-    CheckAnswer::Passed
+    Ok(())
 }
 
 // 16, then 17, then 12.
-fn check(bytes: &[u8], numbers: usize, mark: &[u8]) -> CheckAnswer
-    requires { FormFits numbers mark.now }
-    ensures { check_meaning result ≡ checked (read_checks (form_of numbers mark.now) bytes.now) }
+fn check(form: SavedForm, bytes: &[u8]) -> Result<(), Refusal>
+    ensures { meaning result ≡ checked (read_checks (form_of form) bytes.now) }
 {
-    match sections::check_file(bytes, numbers, mark) {
-        CheckAnswer::Refused(number, place) => {
-            return CheckAnswer::Refused(number, place);
-        }
-        CheckAnswer::Passed => {}
-    }
-    match face_byte::check(bytes) {
-        CheckAnswer::Refused(number, place) => {
-            return CheckAnswer::Refused(number, place);
-        }
-        CheckAnswer::Passed => {}
-    }
-    let start = HEAD + mark.len();
+    sections::check_file(form, bytes)?;
+    face_byte::check(bytes)?;
     let faces = face_byte::faces(bytes);
-    check_groups(faces, bytes, start, numbers)
+    check_groups(form, faces, &bytes[form.first_quads()..])
 }
 
-// Takes so many numbers from a byte on into an output that has room for them, and answers where they
-// end.
-fn take_numbers(bytes: &[u8], start: usize, count: usize, out: &mut [u32], to: usize) -> usize
-    requires count_in_bounds { start + count * 4 ≤ length bytes.now }
-    requires room { Room (numbers_at bytes.now start count) out.old to }
-    ensures { Wrote (numbers_at bytes.now start count) out.old to out.new result }
+// Takes the numbers that some bytes begin with.
+fn take_numbers(bytes: &[u8], out: &mut [u32])
+    requires { length out.old * 4 ≤ length bytes.now }
+    ensures { out.new ≡ read_all 4 number32 (length out.old) bytes.now }
 {
-    let mut k: usize = 0;
-    let mut at = start;
-    while k < count {
-        let next = to + k;
-        out[next] = number::at(bytes, at);
-        at += 4;
-        k += 1;
+    for (k, n) in out.iter_mut().enumerate() {
+        *n = number::get(&bytes[4 * k..]);
     }
-    to + k
 }
 
-// Takes the quads of six sections, of a file that has passed 16, into an output that has room for them,
-// and answers how many each has.
-fn take_groups(bytes: &[u8], start: usize, numbers: usize, out: &mut [u32]) -> [u64; 6]
-    requires walk { Walk numbers bytes.now 0 start }
-    requires room { Room (list_at numbers bytes.now start 6) out.old 0 }
-    ensures value { result ≡ map length (groups_at numbers bytes.now start 6) }
-    ensures out_after { out.new ≡ overwritten (list_at numbers bytes.now start 6) out.old }
+// Takes the quads of six sections, of a file that has passed 16, and answers how many each has.
+fn take_groups(form: SavedForm, bytes: &[u8], out: &mut [u32]) -> [u64; 6]
+    requires walk { Walk form.numbers 0 bytes.now }
+    requires exact { length out.old ≡ length (joined (joined (groups_in form.numbers 6 bytes.now))) }
+    ensures value { result ≡ map length (groups_in form.numbers 6 bytes.now) }
+    ensures out_after { out.new ≡ joined (joined (groups_in form.numbers 6 bytes.now)) }
 {
+    let size = form.quad_size();
     let mut counts = [0u64; 6];
-    let mut at = start;
-    let mut to: usize = 0;
-    let mut k: usize = 0;
-    while k < 6 {
-        let count = number::at(bytes, at) as usize;
-        let many = count * numbers;
-        let records = at + 4;
-        to = take_numbers(bytes, records, many, out, to);
-        counts[k] = count as u64;
-        let extent = many * 4;
-        at = records + extent;
-        k += 1;
+    let mut rest = bytes;
+    let mut at: usize = 0;
+    for count in counts.iter_mut() {
+        let section = Section::first(rest, size);
+        let end = at + section.count * form.numbers;
+        take_numbers(section.records, &mut out[at..end]);
+        *count = section.count as u64;
+        rest = section.after;
+        at = end;
     }
     counts
 }
 
-// A refused reader's answer.
-fn refused(number: u32, place: u64) -> ReadAnswer
-    ensures { result ≡ read_answer (answers.refused number place) }
+// Reads a file of the form.
+pub(crate) fn read(form: SavedForm, bytes: &[u8], out: &mut [u32]) -> Result<SavedMesh, Refusal>
+    ensures { read_outcome (reader_answer (meaning result)) out.new ≡ read_form (form_of form) bytes.now out.old }
 {
-    let faces = [OrientedBlockFace {
-        n_sign: 1,
-        permutation: AxisPermutation::Xyz,
-    }; 6];
-    ReadAnswer {
-        mesh: listing::refused(number, place),
-        faces,
-    }
-}
-
-// Reads a file in the form of so many numbers a quad and of a mark.
-pub(crate) fn read(bytes: &[u8], numbers: usize, mark: &[u8], out: &mut [u32]) -> ReadAnswer
-    requires { FormFits numbers mark.now }
-    ensures { read_outcome result out.new ≡ read_form (form_of numbers mark.now) bytes.now out.old }
-{
-    match check(bytes, numbers, mark) {
-        CheckAnswer::Refused(number, place) => {
-            return refused(number, place);
-        }
-        CheckAnswer::Passed => {}
-    }
-    let start = HEAD + mark.len();
-    let size = numbers * 4;
+    check(form, bytes)?;
+    let start = form.first_quads();
     let records = bytes.len() - start - COUNTS;
-    let quads = records / size;
-    let capacity = out.len() / numbers;
+    let quads = records / form.quad_size();
+    let capacity = out.len() / form.numbers;
     if capacity < quads {
-        return refused(listing::MANY_QUADS, capacity as u64);
+        return Err(Reason::ManyQuads.at(capacity as u64));
     }
-    let counts = take_groups(bytes, start, numbers, out);
+    let counts = take_groups(form, &bytes[start..], &mut out[..quads * form.numbers]);
     let faces = face_byte::faces(bytes);
-    ReadAnswer {
-        mesh: listing::answered(quads, capacity, counts),
-        faces,
-    }
+    Ok(SavedMesh { faces, counts })
 }

@@ -1,150 +1,113 @@
-// Writes a file of a form, byte after byte. Each function puts its bytes into the output from `at` on,
-// where there is room for them, and answers where they end.
-ghost use Rattle.std.specs.Prelude.{map, ◌≡◌, ◌+◌, ◌*◌, ◌≤◌, length, take, drop};
+// Writes a file of a form. Each function fills the bytes that it is lent.
+ghost use Rattle.std.specs.Prelude.{◌++◌, map, ◌≡◌, ◌+◌, ◌*◌, ◌≤◌, length, take, drop};
 ghost use Rattle.geometry.specs.Refusal.{accepted, checked};
+ghost use Rattle.geometry.specs.Answers.{meaning};
 ghost use Rattle.listing.specs.Listing.{capacity};
 ghost use Rattle.listing.specs.Cut.{items_in};
 ghost use Rattle.writing.specs.Handed.{total, most_quads, handed_checks};
-ghost use Rattle.writing.specs.Written.{outcome};
-ghost use Rattle.obj.specs.Page.{Wrote, Room};
-ghost use Rattle.saved.specs.Form.{face_byte};
+ghost use Rattle.writing.specs.Written.{write_answer, outcome};
+ghost use Rattle.saved.specs.Bytes.{written32, written_all};
 ghost use Rattle.saved.specs.Layout.{group_bytes};
 ghost use Rattle.saved.specs.Saved.{file_of, write_form};
-ghost use Rattle.saved.specs.Private.{form_of, FormFits, head_bytes, list_bytes};
+ghost use Rattle.saved.specs.Private.{form_of, head_bytes, group_at};
 
+use crate::form::SavedForm;
 use crate::{face_byte, number};
 use geometry::face::OrientedBlockFace;
-use writing::written;
-use writing::written::WriteAnswer;
+use geometry::refusal::{Reason, Refusal};
 
 // The bytes of all counts and of the face bytes.
 const HEAD: u64 = 34;
 
-// Some bytes as they are.
-fn bytes(new: &[u8], out: &mut [u8], at: usize) -> usize
-    requires { Room new.now out.old at }
-    ensures { Wrote new.now out.old at out.new result }
+// Numbers, one after another.
+fn numbers(list: &[u32], out: &mut [u8])
+    requires { length out.old ≡ length list.now * 4 }
+    ensures { out.new ≡ written_all written32 list.now }
 {
-    let mut k: usize = 0;
-    while k < new.len() {
-        let next = at + k;
-        out[next] = new[k];
-        k += 1;
+    for (k, n) in list.iter().enumerate() {
+        number::put(*n, &mut out[4 * k..4 * k + 4]);
     }
-    at + k
 }
 
-// Face bytes.
-fn faces(faces: [OrientedBlockFace; 6], out: &mut [u8], at: usize) -> usize
-    requires { Room (map face_byte faces) out.old at }
-    ensures { Wrote (map face_byte faces) out.old at out.new result }
+// The records of section 0: face bytes, and a form's mark.
+fn head_records(codes: [u8; 6], mark: &[u8], out: &mut [u8])
+    requires { length out.old ≡ 6 + length mark.now }
+    ensures { out.new ≡ codes ++ mark.now }
 {
-    let mut k: usize = 0;
-    while k < 6 {
-        let next = at + k;
-        out[next] = face_byte::of_face(faces[k]);
-        k += 1;
+    let (first, rest) = out.split_at_mut(6);
+    first.copy_from_slice(&codes);
+    rest.copy_from_slice(mark);
+}
+
+// A mesh that is handed in to be written in a form, and that has passed its checks.
+#[derive(Clone, Copy)]
+pub(crate) struct HandedMesh<'a> {
+    pub(crate) form: SavedForm,
+    pub(crate) faces: [OrientedBlockFace; 6],
+    pub(crate) counts: [u64; 6],
+    pub(crate) quads: &'a [u32],
+    // How many quads it has.
+    pub(crate) all: u64,
+    ghost passes: { checked (handed_checks form.numbers faces counts quads.now) ≡ accepted tt },
+    ghost summed: { all ≡ total counts },
+}
+
+impl HandedMesh<'_> {
+    // Section 0.
+    fn head(&self, out: &mut [u8])
+        requires { length out.old ≡ 10 + length self.now.form.mark.now }
+        ensures { out.new ≡ head_bytes self.now.form.mark.now self.now.faces }
+    {
+        let count = 6 + self.form.mark.len();
+        let (first, records) = out.split_at_mut(4);
+        number::put(count as u32, first);
+        head_records(face_byte::of_faces(self.faces), self.form.mark, records);
     }
-    at + k
-}
 
-// Section 0.
-fn head(faces_of: [OrientedBlockFace; 6], mark: &[u8], out: &mut [u8], at: usize) -> usize
-    requires mark_len_bound { length mark.now ≤ 1 }
-    requires room { Room (head_bytes mark.now faces_of) out.old at }
-    ensures { Wrote (head_bytes mark.now faces_of) out.old at out.new result }
-{
-    let count = 6 + mark.len();
-    let second = number::put(count as u32, out, at);
-    let third = faces(faces_of, out, second);
-    bytes(mark, out, third)
-}
-
-// So many numbers of a list, from one of them on.
-fn numbers(list: &[u32], from: usize, count: usize, out: &mut [u8], at: usize) -> usize
-    requires count_in_bounds { from + count ≤ length list.now }
-    requires room { Room (list_bytes list.now from count) out.old at }
-    ensures { Wrote (list_bytes list.now from count) out.old at out.new result }
-{
-    let mut next = at;
-    let mut k: usize = 0;
-    while k < count {
-        let i = from + k;
-        next = number::put(list[i], out, next);
-        k += 1;
+    // A group's section: so many quads, after so many of the groups before.
+    fn group(&self, first: usize, count: usize, out: &mut [u8])
+        requires count_bound { first + count ≤ capacity self.now.form.numbers (length self.now.quads.now) }
+        requires count_le_most_quads { count ≤ most_quads }
+        requires exact { length out.old ≡ length (group_at self.now.form.numbers self.now.quads.now first count) }
+        ensures { out.new ≡ group_at self.now.form.numbers self.now.quads.now first count }
+    {
+        let from = first * self.form.numbers;
+        let end = from + count * self.form.numbers;
+        let (head, records) = out.split_at_mut(4);
+        number::put(count as u32, head);
+        numbers(&self.quads[from..end], records);
     }
-    next
-}
 
-// A group's section: so many quads of a list, after so many of the groups before.
-fn group(
-    quads: &[u32],
-    numbers_each: usize,
-    first: usize,
-    count: usize,
-    out: &mut [u8],
-    at: usize,
-) -> usize
-    requires count_bound { first + count ≤ capacity numbers_each (length quads.now) }
-    requires count_le_most_quads { count ≤ most_quads }
-    requires room { Room (group_bytes (items_in numbers_each (take numbers_each) count (drop (first * numbers_each) quads.now))) out.old at }
-    ensures { Wrote (group_bytes (items_in numbers_each (take numbers_each) count (drop (first * numbers_each) quads.now))) out.old at out.new result }
-{
-    let from = first * numbers_each;
-    let all = count * numbers_each;
-    let next = number::put(count as u32, out, at);
-    numbers(quads, from, all, out, next)
-}
-
-// The file of a mesh that has passed its checks, from the start of an output that has room for it.
-fn mesh(
-    faces: [OrientedBlockFace; 6],
-    counts: [u64; 6],
-    quads: &[u32],
-    numbers_each: usize,
-    mark: &[u8],
-    out: &mut [u8],
-) -> usize
-    requires form_fits { FormFits numbers_each mark.now }
-    requires quads_value { checked (handed_checks numbers_each faces counts quads.now) ≡ accepted tt }
-    requires room { Room (file_of (form_of numbers_each mark.now) faces counts quads.now) out.old 0 }
-    ensures { Wrote (file_of (form_of numbers_each mark.now) faces counts quads.now) out.old 0 out.new result }
-{
-    let mut next = head(faces, mark, out, 0);
-    let mut first: usize = 0;
-    let mut k: usize = 0;
-    while k < 6 {
-        let count = counts[k] as usize;
-        next = group(quads, numbers_each, first, count, out, next);
-        first += count;
-        k += 1;
+    // The file.
+    fn file(&self, out: &mut [u8])
+        requires { length out.old ≡ length (file_of (form_of self.now.form) self.now.faces self.now.counts self.now.quads.now) }
+        ensures { out.new ≡ file_of (form_of self.now.form) self.now.faces self.now.counts self.now.quads.now }
+    {
+        let (section_0, groups) = out.split_at_mut(self.form.first_quads());
+        self.head(section_0);
+        let size = self.form.quad_size();
+        let mut at: usize = 0;
+        let mut first: usize = 0;
+        for count in self.counts {
+            let count = count as usize;
+            let end = at + 4 + count * size;
+            self.group(first, count, &mut groups[at..end]);
+            at = end;
+            first += count;
+        }
     }
-    next
-}
 
-// A mesh that has passed its checks, with so many quads, in the form of so many numbers a quad and of a
-// mark. Refuses by 15 where its file is longer than the output.
-pub(crate) fn write(
-    faces: [OrientedBlockFace; 6],
-    counts: [u64; 6],
-    quads: &[u32],
-    all: u64,
-    numbers_each: usize,
-    mark: &[u8],
-    out: &mut [u8],
-) -> WriteAnswer
-    requires form_fits { FormFits numbers_each mark.now }
-    requires quads_value { checked (handed_checks numbers_each faces counts quads.now) ≡ accepted tt }
-    requires all_value { all ≡ total counts }
-    ensures { outcome result out.new ≡ write_form (form_of numbers_each mark.now) (handed_checks numbers_each faces counts quads.now) faces counts quads.now out.old }
-{
-    let size = numbers_each as u64 * 4;
-    let records = all * size;
-    let head = HEAD + mark.len() as u64;
-    let length = head + records;
-    if (out.len() as u64) < length {
-        return written::refused(written::SHORT_OUTPUT, 0);
+    // Refuses by 15 where the file is longer than the output.
+    pub(crate) fn write(&self, out: &mut [u8]) -> Result<usize, Refusal>
+        ensures { outcome (write_answer (meaning result)) out.new ≡ write_form (form_of self.now.form) (handed_checks self.now.form.numbers self.now.faces self.now.counts self.now.quads.now) self.now.faces self.now.counts self.now.quads.now out.old }
+    {
+        let records = self.all * self.form.quad_size() as u64;
+        let length = HEAD + self.form.mark.len() as u64 + records;
+        if (out.len() as u64) < length {
+            return Err(Reason::ShortOutput.at(0));
+        }
+        let length = length as usize;
+        self.file(&mut out[..length]);
+        Ok(length)
     }
-    let end = mesh(faces, counts, quads, numbers_each, mark, out);
-    written::accepted(end as u64)
 }

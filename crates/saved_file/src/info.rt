@@ -1,42 +1,40 @@
 // What is printed of a file.
 use crate::facts::Facts;
 use crate::load::File;
-use crate::{facts, show};
+use geometry::axis::AxisPermutation;
+use geometry::face::OrientedBlockFace;
+use saved::QUAD_NUMBERS;
 use std::io;
+use writing::handed;
 
-// Prints what is told of some quads, and ends the line.
-fn line(rt: &impl Print, facts: Facts) -> io::Result<()> {
-    show::sentence(rt, b" quads ", facts.quads, b" area ")?;
-    show::number(rt, facts.area)?;
-    if facts.quads > 0 {
-        show::text(rt, b" corners")?;
-        show::point(rt, facts.low)?;
-        show::text(rt, b" to")?;
-        show::point(rt, facts.high)?;
-    }
-    show::text(rt, b"\n")
+fn sign(face: OrientedBlockFace) -> char {
+    if face.n_sign == 1 { '+' } else { '-' }
 }
 
-// Prints a line for each face of a file, and one of all of them.
-fn groups(rt: &impl Print, file: File, quads: &[u32]) -> io::Result<()> {
-    let faces = file.faces;
-    let counts = file.counts;
-    let mut all = facts::none();
-    let mut k: usize = 0;
-    while k < 6 {
-        let face = faces[k];
-        let group = facts::of_group(face, quads, all.quads, counts[k]);
-        show::face(rt, face)?;
-        line(rt, group)?;
-        all = facts::join(all, group);
-        k += 1;
+fn name(permutation: AxisPermutation) -> &'static str {
+    match permutation {
+        AxisPermutation::Xyz => "Xyz",
+        AxisPermutation::Zxy => "Zxy",
+        AxisPermutation::Yzx => "Yzx",
+        AxisPermutation::Zyx => "Zyx",
+        AxisPermutation::Xzy => "Xzy",
+        AxisPermutation::Yxz => "Yxz",
     }
-    show::text(rt, b"all")?;
-    line(rt, all)
 }
 
-// Prints what a file holds.
-pub fn print(rt: &impl Print, file: File, quads: &[u32]) -> io::Result<()> {
-    show::sentence(rt, b"form 1 bytes ", file.bytes, b"\n")?;
-    groups(rt, file, quads)
+// Prints what a file holds: a line for each face, and one of all of them.
+pub fn print(rt: &impl Print, file: &File) -> io::Result<()> {
+    println!(rt; "form 1 bytes {}", file.bytes)?;
+    let mut quads = file.quads.as_chunks::<QUAD_NUMBERS>().0.iter();
+    let mut all = Facts::default();
+    for (face, count) in file.faces.iter().zip(file.counts) {
+        let group = quads
+            .by_ref()
+            .take(count as usize)
+            .map(|quad| Facts::of(*face, handed::quad_from(quad)))
+            .fold(Facts::default(), Facts::join);
+        println!(rt; "{}{} {group}", sign(*face), name(face.permutation))?;
+        all = all.join(group);
+    }
+    println!(rt; "all {all}")
 }

@@ -15,53 +15,39 @@ mod info;
 mod load;
 mod refused;
 mod say;
-mod show;
-mod space;
 mod words;
 
 use load::File;
+use say::{Failure, Wrong};
 use std::io;
+use std::rt::Env;
 use words::Job;
 
-// Prints the quads of a file as OBJ text, of at most 3,000,000 bytes. Where it is longer, or could not be
-// written, it says so instead.
-fn write_obj(rt: &impl Print, err: &impl Print, file: File, quads: &[u32]) -> io::Result<()> {
-    let mut room = space::text();
-    let out: &mut [u8] = &mut room;
-    let faces = file.faces;
-    let counts = file.counts;
-    let answer = obj::write_obj(faces, counts, quads, out);
-    if answer.refusal != 0 {
-        return say::text_refused(err, answer.refusal, answer.place);
-    }
-    if show::write_part(rt, out, answer.written as usize).is_err() {
-        say::text(
-            err,
-            b"saved_file: the OBJ text could not be written, or not all of it\n",
-        )?;
-    }
+// The most bytes of OBJ text that this command writes.
+const MOST_TEXT: usize = 3000000;
+
+// Prints the quads of a file as OBJ text.
+fn write_obj<R: Print + AllocGlobal>(rt: &R, file: &File) -> Result<(), Failure> {
+    let mut text = vec![in rt.alloc(); 0u8; MOST_TEXT]?;
+    let written = obj::write_obj(file.faces, file.counts, &file.quads, &mut text)?;
+    text.truncate(written);
+    rt.write_all(&text).map_err(|_| Wrong::Unwritten)?;
     Ok(())
 }
 
 // Reads a file and does with it what is asked for.
-fn run(rt: &(impl Input + Print), err: &impl Print, obj: bool) -> io::Result<()> {
-    let mut room = space::quads();
-    let quads: &mut [u32] = &mut room;
-    let file = load::read(rt, err, quads)?;
-    if file.wrong {
-        return Ok(());
+fn run<R: Env + Input + Print + AllocGlobal>(rt: &R) -> Result<(), Failure> {
+    let job = words::read(rt)?;
+    let file = load::read(rt)?;
+    match job {
+        Job::Info => Ok(info::print(rt, &file)?),
+        Job::Obj => write_obj(rt, &file),
     }
-    if obj {
-        return write_obj(rt, err, file, quads);
-    }
-    info::print(rt, file, quads)
 }
 
 fn main(rt: HostRuntime) -> io::Result<()> {
-    let err = rt.stderr();
-    match words::read(&rt, &err)? {
-        Job::Info => run(&rt, &err, false),
-        Job::Obj => run(&rt, &err, true),
-        Job::Wrong => Ok(()),
+    match run(&rt) {
+        Ok(()) => Ok(()),
+        Err(failure) => failure.say(&rt.stderr()),
     }
 }

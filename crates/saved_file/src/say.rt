@@ -1,60 +1,102 @@
 // What is said on standard error: what was wrong, and where.
-use std::io;
-use writing::written;
-
-pub fn text(err: &impl Print, s: &[u8]) -> io::Result<()> {
-    err.write_all(s)
-}
-
-pub fn number(err: &impl Print, n: u64) -> io::Result<()> {
-    err.print(n)
-}
-
-// Two digits of a number below 256, to the base of 16.
-pub fn hex(err: &impl Print, n: u64) -> io::Result<()> {
-    let digits = b"0123456789abcdef";
-    let high = (n / 16 % 16) as usize;
-    let low = (n % 16) as usize;
-    text(err, &[digits[high], digits[low]])
-}
-
-// A sentence with a number in it.
-pub fn sentence(err: &impl Print, before: &[u8], n: u64, after: &[u8]) -> io::Result<()> {
-    text(err, before)?;
-    number(err, n)?;
-    text(err, after)
-}
-
-// By which number and at which place something was refused.
-pub fn refused(err: &impl Print, number: u32, place: u64) -> io::Result<()> {
-    sentence(err, b"saved_file: refused by ", number as u64, b" at ")?;
-    sentence(err, b"", place, b": ")
-}
+use crate::refused::Refused;
+use geometry::refusal::{Reason, Refusal};
+use std::alloc::AllocError;
+use std::{fmt, io};
+use thiserror::Error;
 
 // What this command is for, and where more is to be had.
-fn limits(err: &impl Print) -> io::Result<()> {
-    text(
-        err,
-        b"saved_file takes at most 2621474 bytes, which is 131072 quads, and writes at most 3000000; ",
-    )?;
-    text(
-        err,
-        b"the C interface (include/spunmarrow.h) has neither limit\n",
-    )
+const LIMITS: &str =
+    "saved_file takes at most 2621474 bytes, which is 131072 quads, and writes at most 3000000; \
+                      the C interface (include/spunmarrow.h) has neither limit";
+
+// Why a run ends early.
+#[derive(Drop)]
+pub enum Failure {
+    // The word of the command line, and what is wrong with it. It need not be text.
+    Word(Vec<u8>, WordError),
+    Wrong(Wrong),
+    Io(io::Error),
 }
 
-pub fn long_file(err: &impl Print) -> io::Result<()> {
-    text(err, b"saved_file: standard input is too long: ")?;
-    limits(err)
-}
-
-// That the OBJ text was refused. The numbers are document 02's; those that the mesh of a file cannot get
-// are left out.
-pub fn text_refused(err: &impl Print, number: u32, place: u64) -> io::Result<()> {
-    refused(err, number, place)?;
-    if number == written::SHORT_OUTPUT {
-        text(err, b"the OBJ text is too long: ")?;
-        return limits(err);
+impl Failure {
+    // Says what was wrong. An error of reading or writing is handed on, for `main` to end with.
+    pub fn say(self, err: &impl Print) -> io::Result<()> {
+        match self {
+            Failure::Word(word, wrong) => {
+                print!(err; "saved_file: word 1, '")?;
+                err.write_all(&word)?;
+                println!(err; "', {wrong}")
+            }
+            Failure::Wrong(wrong) => println!(err; "saved_file: {wrong}"),
+            Failure::Io(error) => Err(error),
+        }
     }
-    text(err, b"the mesh is refused\n")
+}
+
+impl From<Wrong> for Failure {
+    fn from(wrong: Wrong) -> Failure {
+        Failure::Wrong(wrong)
+    }
+}
+
+// A refusal of the OBJ writer.
+impl From<Refusal> for Failure {
+    fn from(refusal: Refusal) -> Failure {
+        Failure::Wrong(Wrong::Text(TextRefused(refusal)))
+    }
+}
+
+impl From<io::Error> for Failure {
+    fn from(error: io::Error) -> Failure {
+        Failure::Io(error)
+    }
+}
+
+impl From<AllocError> for Failure {
+    fn from(error: AllocError) -> Failure {
+        Failure::Io(io::Error::from(error))
+    }
+}
+
+// What is wrong with the word.
+#[derive(Debug, Drop, Error)]
+pub enum WordError {
+    #[error("is neither info nor obj")]
+    Unknown,
+    #[error("is too long for any word of saved_file")]
+    TooLong,
+}
+
+// What else is wrong.
+#[derive(Debug, Drop, Error)]
+pub enum Wrong {
+    #[error("takes one word, info or obj, and none came")]
+    NoWord,
+    #[error("takes one word, info or obj, and {0} came")]
+    Words(usize),
+    #[error("standard input is too long: {limits}", limits = LIMITS)]
+    LongFile,
+    #[error(transparent)]
+    File(Refused),
+    #[error(transparent)]
+    Text(TextRefused),
+    #[error("the OBJ text could not be written, or not all of it")]
+    Unwritten,
+}
+
+// That the OBJ text was refused. The reasons that the mesh of a file cannot get have no words of their
+// own.
+#[derive(Clone, Copy, Debug)]
+pub struct TextRefused(Refusal);
+
+impl fmt::Display for TextRefused {
+    fn fmt<W: fmt::Write>(&self, f: &mut fmt::Formatter<W>) -> fmt::Result {
+        let Refusal { reason, place } = self.0;
+        write!(f, "refused by {} at {place}: ", u32::from(reason))?;
+        match reason {
+            Reason::ShortOutput => write!(f, "the OBJ text is too long: {LIMITS}"),
+            _ => f.write_str("the mesh is refused"),
+        }
+    }
 }

@@ -4,6 +4,7 @@ use mathlib.Core.List.{List, [], ◌∷◌, ◌++◌, map}
 use mathlib.Core.Path.{◌≡◌, refl, ◌∙◌, ap}
 use Prim.Native.Nat.{ℕ}
 use lib.ListN.{length}
+use Rattle.std.proofs.lemmas.List.{map-id}
 use contract.Lifetimes
 use borrow.Fn.World
 use borrow.Fn.Kinds
@@ -18,7 +19,8 @@ use Rattle.voxels.specs.Checks.{unit_checks}
 use Rattle.voxels.proofs.Passed.{unit_passed}
 use Rattle.voxels.proofs.Numbered.{entry_number, unit_never}
 use Rattle.listing.specs.Listing.{lay}
-use Rattle.listing.specs.Outcome.{listed_after, MeshOutcome, outcome, listed_outcome}
+use Rattle.geometry.specs.Answers.{meaning}
+use Rattle.listing.specs.Outcome.{MeshAnswer, mesh_answer, listed_after, MeshOutcome, outcome, listed_outcome}
 use Rattle.listing.specs.Cut.{groups_in}
 use Rattle.listing.proofs.Outcome.{entry_passed, entry_by_number}
 use Rattle.listing.proofs.Cut.{matched_each, zero_groups, nine_place, nine_first}
@@ -30,7 +32,6 @@ use Rattle.simple.specs.Unit.{unit_numbers, numbers_of, unit_from, visible_block
 use Rattle.simple.specs.Call.{minimum_from, UnitMeshed, CallHolds, NineHolds}
 use Rattle.simple.proofs.Outcome.{three}
 use Rattle.voxels.specs.declared.extent.Extent.{Extent}
-use Rattle.listing.specs.declared.MeshAnswer.{MeshAnswer}
 use Rattle.simple.specs.contracts.visible_block_faces
 use Rattle.simple.proofs.visible_block_faces.Kinds as visible-block-faces-kinds
 use Rattle.simple.proofs.visible_block_faces.Reads as visible-block-faces
@@ -40,13 +41,9 @@ minimum_back : (p : Point) (rest : List ℕ) → minimum_from (numbers_of p ++ r
 unfolding minimum_from
 minimum_back p rest = refl
 
-same_items : {A : Type 0} (l : List A) → map (λ (a : A). a) l ≡ l
-same_items [] = refl
-same_items (a ∷ l) = ap (λ (r : List _). a ∷ r) (same_items l)
-
 same_groups : {A : Type 0} (ls : List (List A)) → map (map (λ (a : A). a)) ls ≡ ls
 same_groups [] = refl
-same_groups (l ∷ ls) = rw (same_items l, same_groups ls)
+same_groups (l ∷ ls) = rw (map-id l, same_groups ls)
 
 module _ (voxels : List ℕ) (shape min max : Point) (faces : List OrientedBlockFace) (was : List ℕ) (r : MeshAnswer) (out : List ℕ)
     (promised : outcome r out ≡ visible_block_faces voxels shape min max faces was) where
@@ -103,10 +100,14 @@ module _ (voxels : List ℕ) (shape min max : Point) (faces : List OrientedBlock
 -- Of the contract of `visible_block_faces` itself: its arguments are the voxels, the shape, min, max, the faces and the output.
 module _ (κs : Lifetimes.Lfts 2) (a : World.ArgsD visible_block_faces.signature κs) (r : World.ResD visible_block_faces.signature κs)
     (s : Clauses.AtExit (Kinds.ended_of 2 visible-block-faces-kinds.ps visible-block-faces-kinds.r) κs) (post : visible-block-faces.Post κs a r s) where
+  -- What it answers.
+  abbrev answers : MeshAnswer
+  answers = mesh_answer (meaning r)
+
   -- A call that answers 0,
-  pub call_holds : r.refusal ≡ 0 → CallHolds a.0.now a.1.0 a.1.1.0 a.1.1.1.0 a.1.1.1.1.0 r s.1.1.1.1.1.0.now
+  pub call_holds : answers.refusal ≡ 0 → CallHolds a.0.now a.1.0 a.1.1.0 a.1.1.1.0 a.1.1.1.1.0 answers s.1.1.1.1.1.0.now
   call_holds = outcome_holds _ _ _ _ _ _ _ _ post
 
   -- and one that answers 9.
-  pub nine_holds : r.refusal ≡ 9 → NineHolds a.0.now a.1.0 a.1.1.0 a.1.1.1.0 a.1.1.1.1.0 r s.1.1.1.1.1.0.now
+  pub nine_holds : answers.refusal ≡ 9 → NineHolds a.0.now a.1.0 a.1.1.0 a.1.1.1.0 a.1.1.1.1.0 answers s.1.1.1.1.1.0.now
   nine_holds = outcome_nine _ _ _ _ _ _ _ _ post

@@ -10,7 +10,7 @@ use lib.ListN.{length, replicate}
 use Rattle.geometry.proofs.Refusals.{split}
 use Rattle.voxels.specs.Visible.{offset_index}
 use Rattle.voxels.specs.Entered.{most_voxels, longest}
-use Rattle.voxels.specs.declared.index.Stride.{Stride}
+use Rattle.simple.specs.declared.block.Block.{Block}
 use Rattle.simple.specs.declared.rows.Rows.{Rows}
 use Rattle.simple.specs.Ready.{offset_of, RowReady, NoneBad, RowsReady, reach}
 use Rattle.simple.specs.Count.{shown_at, row_shown, rows_shown, RowsCounted, Flat, gaps_of, Within, RunCounted}
@@ -128,11 +128,11 @@ module _ {rows : Rows} {long : ℕ} (flat : Flat rows long) where
       let all : gaps + 1 ≡ rows.high = omega (arith, flat.high_some) in
       rw flat.is (rw all at (flat_sum (shown_at vs o) wide 2 d flat.apart gaps i))
 
-  module _ (vs : List ℕ) (strides : List Stride) {between : List ℕ} (i : ℕ) (counted : RowsCounted vs strides (replicate 6 0) between (i + wide) (gaps_of rows)) where
+  module _ (block : Block) {between : List ℕ} (i : ℕ) (counted : RowsCounted block (replicate 6 0) between (i + wide) (gaps_of rows)) where
     -- So what lies between the rows is no more than the run,
-    pub flat_within : Within between (λ (f : ℕ). row_shown vs (offset_of strides f) long i)
-    flat_within = record { all = counted.all; each = λ f h. omega (arith, counted_zeros counted f h, flat_shown vs (offset_of strides f) i) }
+    pub flat_within : Within between (λ (f : ℕ). row_shown block.voxels.now (offset_of block.strides f) long i)
+    flat_within = record { all = counted.all; each = λ f h. omega (arith, counted_zeros counted f h, flat_shown block.voxels.now (offset_of block.strides f) i) }
 
     -- and the run less that is what the rows show.
-    pub flat_counted : {was now : List ℕ} → RunCounted vs strides between was now i long → RowsCounted vs strides was now i rows
-    flat_counted less = record { each = λ f h. omega (arith, less.each f h, counted_zeros counted f h, flat_shown vs (offset_of strides f) i); all = less.all }
+    pub flat_counted : {was now : List ℕ} → RunCounted block between was now i long → RowsCounted block was now i rows
+    flat_counted less = record { each = λ f h. omega (arith, less.each f h, counted_zeros counted f h, flat_shown block.voxels.now (offset_of block.strides f) i); all = less.all }

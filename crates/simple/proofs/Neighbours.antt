@@ -6,7 +6,10 @@ use Prim.Native.Nat.{ℕ, ◌+◌, ◌*◌, ◌≤◌, ◌<◌}
 use native.Mathlib.Nat.{mul-one}
 use native.Mathlib.Omega.{arith}
 use lib.ListN.{get_or}
-use borrow.Author.Tests.{lt-ltb, le-ltb}
+use lib.Dec.{ltb}
+use borrow.Author.Tests.{lt-ltb, le-ltb, ltb-true, ltb-false}
+use mir.Val.{bool_byte}
+use Rattle.geometry.proofs.Refusals.{split}
 use Rattle.geometry.specs.Axes.{bit}
 use Rattle.voxels.specs.Voxel.{merge_values, class, shows}
 use Rattle.voxels.specs.Visible.{offset_index}
@@ -26,6 +29,13 @@ module _ (v w : ℕ) (sound : class v ≤ 2) where
   pub hides_higher : {own other : ℕ} → own ≡ class v → other ≡ class w → own ≤ other → 0 ≡ bit (shows v w)
   unfolding class
   hides_higher is-own is-other h = rw (shows_below v w sound, le-ltb w (class v * merge_values) (omega arith))
+
+  -- So the test of the two classes tells.
+  pub shown_by_test : {own other : ℕ} → own ≡ class v → other ≡ class w → bool_byte (ltb other own) ≡ bit (shows v w)
+  shown_by_test {own} {other} is-own is-other =
+      split (ltb other own)
+      (λ t. rw t (shows_lower is-own is-other (ltb-true other own t)))
+      (λ f. rw f (hides_higher is-own is-other (ltb-false other own f)))
 
 module _ (vs : List ℕ) (offset i : ℕ) (sound : class (get_or vs i 0) ≤ 2) {sight : ℕ} (is : sight ≡ class (get_or vs i 0) * merge_values) {j : ℕ} (at_j : j ≡ offset_index i offset) where
   -- It shows its face to what lies below its sight,

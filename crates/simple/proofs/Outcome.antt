@@ -14,12 +14,11 @@ use Rattle.voxels.proofs.Passed.{Passed, unit_passed}
 use Rattle.voxels.proofs.Held.{bounds_held}
 use Rattle.voxels.proofs.Entered.{interior_is}
 use Rattle.voxels.proofs.Lowest.{sound_around}
-use Rattle.listing.specs.Outcome.{mesh_answer, MeshOutcome, outcome, listed_outcome}
+use Rattle.listing.specs.Outcome.{MeshAnswer, mesh_answer, MeshOutcome, outcome, listed_outcome}
 use Rattle.listing.proofs.Outcome.{entry_refused}
 use Rattle.simple.specs.Kernel.{Meshable}
 use Rattle.simple.specs.Unit.{unit_numbers, numbers_of, unit_from, visible_block_faces}
 use Rattle.voxels.specs.declared.bounds.Entry.{Entry}
-use Rattle.listing.specs.declared.MeshAnswer.{MeshAnswer}
 
 -- A unit quad has three numbers.
 pub three : (p : Point) → length (numbers_of p) ≡ unit_numbers

@@ -3,11 +3,9 @@ use mathlib.Core.List.{List}
 use mathlib.Core.Path.{◌≡◌, refl, ◌∙◌}
 use Prim.Native.Nat.{ℕ, suc, ◌+◌, ◌≤◌, ◌<◌}
 use native.Mathlib.Omega.{arith}
-use lib.Dec.{eqb}
 use lib.ListN.{length, get_or, set, length-set, replicate, get_or-replicate}
 use lib.Seq.{get_or-set_same, get_or-set_other, set-get_or}
-use borrow.Author.Tests.{eqb-true, eqb-false}
-use Rattle.geometry.proofs.Refusals.{split}
+use borrow.Author.Count.{below_more}
 use Rattle.simple.specs.Ready.{most_listed, Room}
 use Rattle.simple.specs.Count.{Counted}
 use Rattle.simple.specs.Kernel.{start_of}
@@ -41,14 +39,11 @@ start_next counts f n e = let next : f + 1 ≡ suc f = omega arith in rw (next, 
 
 -- A list filled from its start: after one more is set, all so far are what they should be.
 pub filled_next : {A : Type 0} (none : A) (Is : ℕ → A → Type 0) (l : List A) (f : ℕ) (x : A) → f < length l → Is f x → ((g : ℕ) → g < f → Is g (get_or l g none)) → (g : ℕ) → g < f + 1 → Is g (get_or (set l f x) g none)
-filled_next none Is l f x h is before g below =
-    split (eqb g f)
-    (λ t. rw (eqb-true g f t, get_or-set_same l f x none h) is)
-    (λ n. let other = eqb-false g f n in rw (get_or-set_other l f g x none other) (before g (omega arith)))
+filled_next none Is l f x h is before =
+    below_more (λ (g : ℕ). Is g (get_or (set l f x) g none)) f (λ g below. rw (get_or-set_other l f g x none (λ e. omega arith)) (before g below)) (rw (get_or-set_same l f x none h) is)
 
 -- Numbers that grow, f faces done: each so far grew by what `more` says of its face, and the others are as they were.
 pub record Growing (was now : List ℕ) (more : ℕ → ℕ) (f : ℕ) : Type 0 where
-  pub within : f ≤ 6
   pub all : length now ≡ 6
   pub grown : (g : ℕ) → g < f → get_or now g 0 ≡ get_or was g 0 + more g
   pub left : (g : ℕ) → f ≤ g → get_or now g 0 ≡ get_or was g 0
@@ -56,18 +51,13 @@ pub record Growing (was now : List ℕ) (more : ℕ → ℕ) (f : ℕ) : Type 0 
 module _ {was : List ℕ} {more : ℕ → ℕ} where
   -- It starts.
   pub growing_start : length was ≡ 6 → Growing was was more 0
-  growing_start e = record { within = omega arith; all = e; grown = λ g h. absurd (omega arith); left = λ g h. refl }
+  growing_start e = record { all = e; grown = λ g h. absurd (omega arith); left = λ g h. refl }
 
   module _ {now : List ℕ} {f : ℕ} (l : Growing was now more f) where
-    -- The number at hand has the room that it had.
-    pub growing_room : f < 6 → {most : ℕ} → Room was most → get_or now f 0 + most ≤ most_listed
-    growing_room h room = omega (arith, room.each f h, l.left f (omega arith))
-
-    -- It grows,
+    -- It goes on where the number at hand grows,
     pub growing_on : f < 6 → {r : ℕ} → r ≡ get_or now f 0 + more f → Growing was (set now f r) more (f + 1)
     growing_on h {r} is =
         record {
-          within = omega arith;
           all = length-set now f r ∙ l.all;
           grown = filled_next 0 (λ (g n : ℕ). n ≡ get_or was g 0 + more g) now f r (omega (arith, l.all)) (omega (arith, is, l.left f (omega arith))) l.grown;
           left = λ g above. get_or-set_other now f g r 0 (λ e. omega arith) ∙ l.left g (omega arith);
@@ -76,7 +66,3 @@ module _ {was : List ℕ} {more : ℕ → ℕ} where
     -- or stays where nothing is added.
     pub growing_still : f < 6 → more f ≡ 0 → Growing was now more (f + 1)
     growing_still h none = rw (set-get_or now f 0) at (growing_on h {r = get_or now f 0} (omega (arith, none)))
-
-    -- At the end all grew.
-    pub growing_done : 6 ≤ f → Counted was now more
-    growing_done h = record { each = λ g b. l.grown g (omega arith); all = l.all }

@@ -1,10 +1,11 @@
 -- After an accepted entry no voxel that the loops read is bad: neither those of the interior's rows, nor, where the box spans its block along x, the two between a row and the next.
 use mathlib.Core.List.{List}
 use mathlib.Core.Path.{◌≡◌}
-use Prim.Native.Nat.{ℕ, zero, suc, ◌+◌, ◌*◌, ◌≤◌, ◌<◌}
+use Prim.Native.Nat.{ℕ, suc, ◌+◌, ◌*◌, ◌≤◌, ◌<◌}
 use native.Mathlib.Nat.{add-zero, add-mul, one-mul, zero-mul}
 use native.Mathlib.Omega.{arith}
 use lib.ListN.{get_or}
+use borrow.Author.Count.{below_none, below_more}
 use Rattle.geometry.specs.declared.axis.Axis.TheVariants.{X, Y, Z}
 use Rattle.geometry.specs.Point.{Point, at, along}
 use Rattle.voxels.specs.declared.extent.Extent.{Extent}
@@ -14,12 +15,6 @@ use Rattle.voxels.specs.Extent.{interior}
 use Rattle.voxels.specs.Entered.{Held, SoundAround, wide_of, high_of, deep_of}
 use Rattle.voxels.proofs.Places.{index_at}
 use Rattle.simple.specs.Ready.{NoneBad}
-
--- What holds of 0 and of 1 holds of each of two.
-each_of_two : (P : ℕ → Type 0) → P 0 → P 1 → (m : ℕ) → m < 2 → P m
-each_of_two P a b zero h = a
-each_of_two P a b (suc zero) h = b
-each_of_two P a b (suc (suc m)) h = let none : ⊥ = omega arith in absurd none
 
 module _ (shape : Point) (lent : ℕ) (min max : Point) (h : Held shape lent min max) (vs : List ℕ) (sound : SoundAround vs shape (interior min max)) where
   abbrev inner : Extent
@@ -56,6 +51,7 @@ module _ (shape : Point) (lent : ℕ) (min max : Point) (h : Held shape lent min
   -- So where rows are two voxels apart neither of those is bad.
   pub gap_good : (j k : ℕ) → suc j < high_of inner → k < deep_of inner → stride shape Y ≡ wide_of inner + 2 → NoneBad vs (start + k * stride shape Z + j * stride shape Y + wide_of inner) 2
   gap_good j k hj hk two =
-      each_of_two (λ (m : ℕ). class (get_or vs (start + k * stride shape Z + j * stride shape Y + wide_of inner + m) 0) ≤ 2)
-      (rw add-zero (sound_at (wide_of inner) j k (omega arith) (omega arith) (omega arith)))
+      let good : ℕ → Type 0 = λ m. class (get_or vs (start + k * stride shape Z + j * stride shape Y + wide_of inner + m) 0) ≤ 2 in
+      below_more good 1
+      (below_more good 0 (below_none good) (rw add-zero (sound_at (wide_of inner) j k (omega arith) (omega arith) (omega arith))))
       (sound_before (j + 1) k (omega arith) (omega arith) _ (omega (arith, two, add-mul j 1 (stride shape Y), one-mul (stride shape Y))))

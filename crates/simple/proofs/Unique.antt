@@ -2,6 +2,7 @@
 -- contract itself, as the function's generated `Reads` has it (`Post`), and not about a copy of it.
 use mathlib.Core.Path.{◌≡◌, sym, ◌∙◌, ap}
 use Rattle.listing.specs.Outcome.{MeshOutcome}
+use Rattle.listing.proofs.Outcome.{mesh_one}
 use contract.Lifetimes
 use borrow.Fn.World
 use borrow.Fn.Kinds
@@ -16,4 +17,4 @@ pub visible_block_faces_unique : (κs : Lifetimes.Lfts 2) (a : World.ArgsD visib
     → (r ≡ r') × (s.1.1.1.1.1.0.now ≡ s'.1.1.1.1.1.0.now)
 visible_block_faces_unique κs a r r' s s' p q =
     let e = p ∙ sym q in
-    (ap (λ (o : MeshOutcome). o.answer) e, ap (λ (o : MeshOutcome). o.out) e)
+    (mesh_one r r' (ap (λ (o : MeshOutcome). o.answer) e), ap (λ (o : MeshOutcome). o.out) e)

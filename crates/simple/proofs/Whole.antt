@@ -1,9 +1,10 @@
 -- From the loops to the groups: that all six faces can be counted and listed, that the counts are the groups', and that the runs lie apart.
-use mathlib.Core.List.{List, [], ◌∷◌, map}
+use mathlib.Core.List.{List, [], map}
 use mathlib.Core.Path.{◌≡◌, refl, sym, ◌∙◌, ap}
 use Prim.Native.Nat.{ℕ, zero, suc, ◌+◌, ◌*◌, ◌%◌, ◌≤◌, ◌<◌}
 use native.Mathlib.Omega.{arith}
 use lib.ListN.{length, length-map, get_or, replicate}
+use Rattle.std.proofs.lemmas.List.{nil_from_length, get_or-map}
 use lib.Seq.{ext_get_or}
 use lib.Dec.{eqb}
 use borrow.Author.Tests.{eqb-true, eqb-false}
@@ -19,6 +20,7 @@ use Rattle.voxels.specs.Entered.{most_voxels}
 use Rattle.voxels.proofs.Entered.{below, bound_small}
 use Rattle.listing.specs.Pushed.{output, MadeGroups}
 use Rattle.rules.specs.Unit.{unit_group, unit_groups}
+use Rattle.simple.specs.declared.block.Block.{Block}
 use Rattle.simple.specs.declared.rows.Slices.{Slices}
 use Rattle.simple.specs.Unit.{unit_numbers, numbers_of}
 use Rattle.simple.specs.Ready.{offset_of, EachFace, SlicesReady, Room, SlicesCountable}
@@ -32,13 +34,7 @@ use Rattle.simple.proofs.Runs.{runs_none, joined_apart, listed_joined}
 
 -- The lengths of the faces' lists, face by face.
 lengths_at : (g : OrientedBlockFace → List Point) (faces : List OrientedBlockFace) (f : ℕ) → f < length faces → get_or (map length (map g faces)) f 0 ≡ length (g (get_or faces f no_face))
-lengths_at g [] f h = let none : ⊥ = omega arith in absurd none
-lengths_at g (x ∷ faces) zero h = refl
-lengths_at g (x ∷ faces) (suc f) h = lengths_at g faces f (omega arith)
-
-no_length : (l : List Point) → length l ≡ 0 → l ≡ []
-no_length [] e = refl
-no_length (p ∷ l) e = let none : ⊥ = omega arith in absurd none
+lengths_at g faces f h = get_or-map length (map g faces) f [] 0 (rw (length-map faces g) h) ∙ ap length (get_or-map g faces f no_face [] h)
 
 -- No count is above where the runs after it begin.
 start_above : (counts : List ℕ) (n f : ℕ) → f < n → get_or counts f 0 ≤ start_of counts n
@@ -49,15 +45,21 @@ start_above counts (suc n) f h =
     (λ t. rw (eqb-true f n t) (omega arith))
     (λ d. let other = eqb-false f n d in omega (arith, start_above counts n f (omega arith)))
 
--- What is meshed: an extent that can be, by six faces and their strides, from the first index on through its slices.
-pub record Meshing (vs : List ℕ) (shape : Point) (inner : Extent) (faces : List OrientedBlockFace) (strides : List Stride) (i : ℕ) (slices : Slices) : Type 0 where
-  pub can : Meshable vs shape inner
+-- What is meshed: an extent of a block that can be, by six faces and their strides, from the first index on through its slices.
+pub record Meshing (block : Block) (shape : Point) (inner : Extent) (faces : List OrientedBlockFace) (i : ℕ) (slices : Slices) : Type 0 where
+  pub can : Meshable block.voxels.now shape inner
   pub six : length faces ≡ 6
-  pub kernel : KernelOf shape faces strides
+  pub kernel : KernelOf shape faces block.strides
   pub first : i ≡ index shape inner.minimum % modulus
   pub through : slices ≡ slices_of shape inner
 
-module _ {vs : List ℕ} {shape : Point} {inner : Extent} {faces : List OrientedBlockFace} {strides : List Stride} {i : ℕ} {slices : Slices} (m : Meshing vs shape inner faces strides i slices) where
+module _ {block : Block} {shape : Point} {inner : Extent} {faces : List OrientedBlockFace} {i : ℕ} {slices : Slices} (m : Meshing block shape inner faces i slices) where
+  abbrev vs : List ℕ
+  vs = block.voxels.now
+
+  abbrev strides : List Stride
+  strides = block.strides
+
   abbrev face_at : ℕ → OrientedBlockFace
   face_at f = get_or faces f no_face
 
@@ -91,11 +93,11 @@ module _ {vs : List ℕ} {shape : Point} {inner : Extent} {faces : List Oriented
       omega (arith, slices_at_most vs (offset_of strides f) slices i)
 
   -- So they can be counted from zeros.
-  pub all_countable : SlicesCountable vs strides (replicate 6 0) i slices
+  pub all_countable : SlicesCountable block (replicate 6 0) i slices
   all_countable = record { each = all_ready; room = zeros_room (omega (arith, few)) }
 
   -- After counting
-  module _ {counts : List ℕ} (counted : SlicesCounted vs strides (replicate 6 0) counts i slices) where
+  module _ {counts : List ℕ} (counted : SlicesCounted block (replicate 6 0) counts i slices) where
     count_at : (f : ℕ) → f < 6 → get_or counts f 0 ≡ shown_of f
     count_at f h = counted_zeros counted f h
 
@@ -143,11 +145,11 @@ module _ {vs : List ℕ} {shape : Point} {inner : Extent} {faces : List Oriented
           let hi = bound_small _ shape inner m.can.entered in
           rw m.through (record { x = omega (arith, lo X, hi X); y = omega (arith, lo Y, hi Y); z = omega (arith, lo Z, hi Z) })
 
-      pub all_listable : SlicesListable vs strides cursors slices i inner.minimum
+      pub all_listable : SlicesListable block cursors slices i inner.minimum
       all_listable = record { all = record { can = record { each = all_ready; room = cursors_room }; apart = runs_apart }; small = corner_small }
 
       -- and what they leave are the groups in turn.
-      pub groups_made : {was out now : List ℕ} → SlicesListed vs strides slices i inner.minimum was cursors out now → MadeGroups unit_numbers numbers_of (unit_groups inner (field shape vs) faces) was out end counts
+      pub groups_made : {was out now : List ℕ} → SlicesListed block slices i inner.minimum was cursors out now → MadeGroups unit_numbers numbers_of (unit_groups inner (field shape vs) faces) was out end counts
       unfolding start_of unit_groups
       groups_made listed = record {
         is = ap (output _) starts.last
@@ -160,6 +162,6 @@ module _ {vs : List ℕ} {shape : Point} {inner : Extent} {faces : List Oriented
       none_made none =
           let no-quad : (f : ℕ) → f < 6 → length (quads_of f) ≡ 0 = λ f h. omega (arith, starts.last, start_above counts 6 f h, count_at f h, shown f) in
           groups_made {now = cursors} (record {
-            is = sym (runs_none 6 _ _ quads_of (λ f h. no_length (quads_of f) (no-quad f h)));
+            is = sym (runs_none 6 _ _ quads_of (λ f h. nil_from_length (quads_of f) (no-quad f h)));
             moved = record { each = λ f h. omega (arith, no-quad f h); all = starts.all };
           })

@@ -8,7 +8,7 @@ use Rattle.voxels.specs.declared.extent.Extent.{Extent}
 use Rattle.voxels.specs.Shape.{Field, field}
 use Rattle.voxels.specs.Extent.{interior}
 use Rattle.geometry.specs.Lists.{Each}
-use Rattle.listing.specs.declared.MeshAnswer.{MeshAnswer}
+use Rattle.listing.specs.Outcome.{MeshAnswer}
 use Rattle.listing.specs.Listing.{joined, capacity}
 use Rattle.listing.specs.Cut.{items_in, groups_in, Matched}
 use Rattle.rules.specs.Unit.{unit_groups, UnitHolds}

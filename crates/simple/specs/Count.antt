@@ -1,9 +1,9 @@
 -- What the private functions of src/count.rt ask for beyond what all loops do, and what they promise: how many faces voxels show, by indices.
 use Rattle.std.specs.Prelude.{List, ◌≡◌, ℕ, ◌+◌, ◌-◌, ◌*◌, ◌≤◌, ◌<◌, length, get_or}
 use Rattle.geometry.specs.Axes.{bit}
-use Rattle.voxels.specs.declared.index.Stride.{Stride}
 use Rattle.voxels.specs.Entered.{longest}
 use Rattle.voxels.specs.Loop.{summed}
+use Rattle.simple.specs.declared.block.Block.{Block}
 use Rattle.simple.specs.declared.rows.Rows.{Rows}
 use Rattle.simple.specs.declared.rows.Slices.{Slices}
 use Rattle.simple.specs.Ready.{offset_of, shows_at, RowCountable, RowsCountable}
@@ -34,20 +34,20 @@ pub record Counted (was now : List ℕ) (more : ℕ → ℕ) : Type 0 where
   pub all : length now ≡ 6
 
 -- By what a voxel shows,
-abbrev pub VoxelCounted : List ℕ → List Stride → List ℕ → List ℕ → ℕ → Type 0
-VoxelCounted voxels strides was now i = Counted was now (λ (f : ℕ). shown_at voxels (offset_of strides f) i)
+abbrev pub VoxelCounted : Block → List ℕ → List ℕ → ℕ → Type 0
+VoxelCounted block was now i = Counted was now (λ (f : ℕ). shown_at block.voxels.now (offset_of block.strides f) i)
 
 -- a row,
-abbrev pub RowCounted : List ℕ → List Stride → List ℕ → List ℕ → ℕ → ℕ → Type 0
-RowCounted voxels strides was now i wide = Counted was now (λ (f : ℕ). row_shown voxels (offset_of strides f) wide i)
+abbrev pub RowCounted : Block → List ℕ → List ℕ → ℕ → ℕ → Type 0
+RowCounted block was now i wide = Counted was now (λ (f : ℕ). row_shown block.voxels.now (offset_of block.strides f) wide i)
 
 -- rows,
-abbrev pub RowsCounted : List ℕ → List Stride → List ℕ → List ℕ → ℕ → Rows → Type 0
-RowsCounted voxels strides was now i rows = Counted was now (λ (f : ℕ). rows_shown voxels (offset_of strides f) rows i)
+abbrev pub RowsCounted : Block → List ℕ → List ℕ → ℕ → Rows → Type 0
+RowsCounted block was now i rows = Counted was now (λ (f : ℕ). rows_shown block.voxels.now (offset_of block.strides f) rows i)
 
 -- and slices.
-abbrev pub SlicesCounted : List ℕ → List Stride → List ℕ → List ℕ → ℕ → Slices → Type 0
-SlicesCounted voxels strides was now i slices = Counted was now (λ (f : ℕ). slices_shown voxels (offset_of strides f) slices i)
+abbrev pub SlicesCounted : Block → List ℕ → List ℕ → ℕ → Slices → Type 0
+SlicesCounted block was now i slices = Counted was now (λ (f : ℕ). slices_shown block.voxels.now (offset_of block.strides f) slices i)
 
 -- ---- rows two voxels apart, as one run
 
@@ -60,8 +60,8 @@ pub record Flat (rows : Rows) (long : ℕ) : Type 0 where
   pub short : long ≤ longest
 
 -- They can be counted so.
-pub record FlatCountable (voxels : List ℕ) (strides : List Stride) (counts : List ℕ) (i : ℕ) (rows : Rows) (long : ℕ) : Type 0 where
-  pub can : RowsCountable voxels strides counts i rows
+pub record FlatCountable (block : Block) (counts : List ℕ) (i : ℕ) (rows : Rows) (long : ℕ) : Type 0 where
+  pub can : RowsCountable block counts i rows
   pub flat : Flat rows long
 
 -- What lies between them, as rows: two voxels each, from after the first row on.
@@ -74,10 +74,10 @@ pub record Within (numbers : List ℕ) (most : ℕ → ℕ) : Type 0 where
   pub each : (f : ℕ) → f < 6 → get_or numbers f 0 ≤ most f
 
 -- A run can be counted, less so many of each face, which it shows at least.
-pub record RunCountable (voxels : List ℕ) (strides : List Stride) (counts less : List ℕ) (i long : ℕ) : Type 0 where
-  pub can : RowCountable voxels strides counts i long
-  pub within : Within less (λ (f : ℕ). row_shown voxels (offset_of strides f) long i)
+pub record RunCountable (block : Block) (counts less : List ℕ) (i long : ℕ) : Type 0 where
+  pub can : RowCountable block counts i long
+  pub within : Within less (λ (f : ℕ). row_shown block.voxels.now (offset_of block.strides f) long i)
 
 -- It was.
-abbrev pub RunCounted : List ℕ → List Stride → List ℕ → List ℕ → List ℕ → ℕ → ℕ → Type 0
-RunCounted voxels strides less was now i long = Counted was now (λ (f : ℕ). row_shown voxels (offset_of strides f) long i - get_or less f 0)
+abbrev pub RunCounted : Block → List ℕ → List ℕ → List ℕ → ℕ → ℕ → Type 0
+RunCounted block less was now i long = Counted was now (λ (f : ℕ). row_shown block.voxels.now (offset_of block.strides f) long i - get_or less f 0)

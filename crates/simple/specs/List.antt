@@ -6,6 +6,7 @@ use Rattle.voxels.specs.Entered.{most_voxels}
 use Rattle.voxels.specs.Rows.{kept_if}
 use Rattle.voxels.specs.Loop.{in_step}
 use Rattle.listing.specs.Pushed.{output, pushed_all}
+use Rattle.simple.specs.declared.block.Block.{Block}
 use Rattle.simple.specs.declared.rows.Rows.{Rows}
 use Rattle.simple.specs.declared.rows.Slices.{Slices}
 use Rattle.simple.specs.Unit.{unit_numbers, numbers_of}
@@ -48,18 +49,18 @@ pub record Listable (ready : ℕ → Type 0) (quads : ℕ → List Point) (strid
   pub apart : Apart cursors (λ (f : ℕ). quads (offset_of strides f))
 
 -- So a row from a point and an index on,
-pub record RowListable (voxels : List ℕ) (strides : List Stride) (cursors : List ℕ) (wide i : ℕ) (p : Point) : Type 0 where
-  pub all : Listable (λ (o : ℕ). RowReady voxels o i wide) (λ (o : ℕ). row_quads voxels o wide p i) strides cursors wide
+pub record RowListable (block : Block) (cursors : List ℕ) (wide i : ℕ) (p : Point) : Type 0 where
+  pub all : Listable (λ (o : ℕ). RowReady block.voxels.now o i wide) (λ (o : ℕ). row_quads block.voxels.now o wide p i) block.strides cursors wide
   pub small : Small p wide 0 0
 
 -- rows
-pub record RowsListable (voxels : List ℕ) (strides : List Stride) (cursors : List ℕ) (rows : Rows) (i : ℕ) (p : Point) : Type 0 where
-  pub all : Listable (λ (o : ℕ). RowsReady voxels o i rows) (λ (o : ℕ). rows_quads voxels o rows p i) strides cursors (reach rows)
+pub record RowsListable (block : Block) (cursors : List ℕ) (rows : Rows) (i : ℕ) (p : Point) : Type 0 where
+  pub all : Listable (λ (o : ℕ). RowsReady block.voxels.now o i rows) (λ (o : ℕ). rows_quads block.voxels.now o rows p i) block.strides cursors (reach rows)
   pub small : Small p rows.wide rows.high 0
 
 -- and slices.
-pub record SlicesListable (voxels : List ℕ) (strides : List Stride) (cursors : List ℕ) (slices : Slices) (i : ℕ) (p : Point) : Type 0 where
-  pub all : Listable (λ (o : ℕ). SlicesReady voxels o i slices) (λ (o : ℕ). slices_quads voxels o slices p i) strides cursors (slices.deep * slices.stride.0)
+pub record SlicesListable (block : Block) (cursors : List ℕ) (slices : Slices) (i : ℕ) (p : Point) : Type 0 where
+  pub all : Listable (λ (o : ℕ). SlicesReady block.voxels.now o i slices) (λ (o : ℕ). slices_quads block.voxels.now o slices p i) block.strides cursors (slices.deep * slices.stride.0)
   pub small : Small p slices.rows.wide slices.rows.high slices.deep
 
 -- ---- what is promised
@@ -79,17 +80,17 @@ pub record RunsListed (was cursors : List ℕ) (quads : ℕ → List Point) (out
   pub moved : Counted cursors now (λ (f : ℕ). length (quads f))
 
 -- So those of a voxel,
-abbrev pub VoxelListed : List ℕ → List Stride → ℕ → Point → List ℕ → List ℕ → List ℕ → List ℕ → Type 0
-VoxelListed voxels strides i p was cursors out now = RunsListed was cursors (λ (f : ℕ). voxel_quad voxels (offset_of strides f) p i) out now
+abbrev pub VoxelListed : Block → ℕ → Point → List ℕ → List ℕ → List ℕ → List ℕ → Type 0
+VoxelListed block i p was cursors out now = RunsListed was cursors (λ (f : ℕ). voxel_quad block.voxels.now (offset_of block.strides f) p i) out now
 
 -- a row,
-abbrev pub RowListed : List ℕ → List Stride → ℕ → ℕ → Point → List ℕ → List ℕ → List ℕ → List ℕ → Type 0
-RowListed voxels strides wide i p was cursors out now = RunsListed was cursors (λ (f : ℕ). row_quads voxels (offset_of strides f) wide p i) out now
+abbrev pub RowListed : Block → ℕ → ℕ → Point → List ℕ → List ℕ → List ℕ → List ℕ → Type 0
+RowListed block wide i p was cursors out now = RunsListed was cursors (λ (f : ℕ). row_quads block.voxels.now (offset_of block.strides f) wide p i) out now
 
 -- rows
-abbrev pub RowsListed : List ℕ → List Stride → Rows → ℕ → Point → List ℕ → List ℕ → List ℕ → List ℕ → Type 0
-RowsListed voxels strides rows i p was cursors out now = RunsListed was cursors (λ (f : ℕ). rows_quads voxels (offset_of strides f) rows p i) out now
+abbrev pub RowsListed : Block → Rows → ℕ → Point → List ℕ → List ℕ → List ℕ → List ℕ → Type 0
+RowsListed block rows i p was cursors out now = RunsListed was cursors (λ (f : ℕ). rows_quads block.voxels.now (offset_of block.strides f) rows p i) out now
 
 -- and slices.
-abbrev pub SlicesListed : List ℕ → List Stride → Slices → ℕ → Point → List ℕ → List ℕ → List ℕ → List ℕ → Type 0
-SlicesListed voxels strides slices i p was cursors out now = RunsListed was cursors (λ (f : ℕ). slices_quads voxels (offset_of strides f) slices p i) out now
+abbrev pub SlicesListed : Block → Slices → ℕ → Point → List ℕ → List ℕ → List ℕ → List ℕ → Type 0
+SlicesListed block slices i p was cursors out now = RunsListed was cursors (λ (f : ℕ). slices_quads block.voxels.now (offset_of block.strides f) slices p i) out now

@@ -5,6 +5,7 @@ use Rattle.voxels.specs.declared.index.Stride.{Stride}
 use Rattle.voxels.specs.Voxel.{class, shows}
 use Rattle.voxels.specs.Visible.{offset_index}
 use Rattle.voxels.specs.Entered.{most_voxels, longest}
+use Rattle.simple.specs.declared.block.Block.{Block}
 use Rattle.simple.specs.declared.rows.Rows.{Rows}
 use Rattle.simple.specs.declared.rows.Slices.{Slices}
 
@@ -78,17 +79,17 @@ pub record Countable (ready : ℕ → Type 0) (strides : List Stride) (numbers :
   pub room : Room numbers most
 
 -- So a voxel,
-abbrev pub VoxelCountable : List ℕ → List Stride → List ℕ → ℕ → Type 0
-VoxelCountable voxels strides numbers i = Countable (λ (o : ℕ). VoxelReady voxels o i) strides numbers 1
+abbrev pub VoxelCountable : Block → List ℕ → ℕ → Type 0
+VoxelCountable block numbers i = Countable (λ (o : ℕ). VoxelReady block.voxels.now o i) block.strides numbers 1
 
 -- a row,
-abbrev pub RowCountable : List ℕ → List Stride → List ℕ → ℕ → ℕ → Type 0
-RowCountable voxels strides numbers i wide = Countable (λ (o : ℕ). RowReady voxels o i wide) strides numbers wide
+abbrev pub RowCountable : Block → List ℕ → ℕ → ℕ → Type 0
+RowCountable block numbers i wide = Countable (λ (o : ℕ). RowReady block.voxels.now o i wide) block.strides numbers wide
 
 -- rows
-abbrev pub RowsCountable : List ℕ → List Stride → List ℕ → ℕ → Rows → Type 0
-RowsCountable voxels strides numbers i rows = Countable (λ (o : ℕ). RowsReady voxels o i rows) strides numbers (reach rows)
+abbrev pub RowsCountable : Block → List ℕ → ℕ → Rows → Type 0
+RowsCountable block numbers i rows = Countable (λ (o : ℕ). RowsReady block.voxels.now o i rows) block.strides numbers (reach rows)
 
 -- and slices.
-abbrev pub SlicesCountable : List ℕ → List Stride → List ℕ → ℕ → Slices → Type 0
-SlicesCountable voxels strides numbers i slices = Countable (λ (o : ℕ). SlicesReady voxels o i slices) strides numbers (slices.deep * slices.stride.0)
+abbrev pub SlicesCountable : Block → List ℕ → ℕ → Slices → Type 0
+SlicesCountable block numbers i slices = Countable (λ (o : ℕ). SlicesReady block.voxels.now o i slices) block.strides numbers (slices.deep * slices.stride.0)

@@ -7,22 +7,24 @@
 
 ghost use Rattle.std.specs.Prelude.{◌≡◌, length};
 ghost use Rattle.geometry.specs.Refusal.{accepted};
+ghost use Rattle.geometry.specs.Answers.{meaning};
 ghost use Rattle.voxels.specs.Shape.{field};
-ghost use Rattle.listing.specs.Outcome.{outcome};
+ghost use Rattle.listing.specs.Outcome.{mesh_answer, outcome};
 ghost use Rattle.simple.specs.Unit.{unit_from, visible_block_faces};
 ghost use Rattle.simple.specs.Ready.{Room};
 ghost use Rattle.simple.specs.Kernel.{Meshable, kernel_stride, KernelOf, Starts, GroupsMade};
 
+mod block;
 mod count;
 mod list;
 mod rows;
 
+use crate::block::{Block, Place};
 use crate::rows::Slices;
 use geometry::face::OrientedBlockFace;
+use geometry::refusal::Refusal;
 use geometry::vector::UVec3;
-use listing::MeshAnswer;
 use voxels::bounds;
-use voxels::bounds::EntryAnswer;
 use voxels::extent::Extent;
 use voxels::index::{Stride, VoxelIndex};
 
@@ -41,27 +43,18 @@ fn kernel_stride(voxels_shape: UVec3, face: OrientedBlockFace) -> Stride
 fn kernel_strides(voxels_shape: UVec3, faces: [OrientedBlockFace; 6]) -> [Stride; 6]
     ensures { KernelOf voxels_shape faces result }
 {
-    let mut strides = [Stride(0); 6];
-    let mut f: usize = 0;
-    while f < 6 {
-        let face = faces[f];
-        strides[f] = kernel_stride(voxels_shape, face);
-        f += 1;
-    }
-    strides
+    faces.map(|face| kernel_stride(voxels_shape, face))
 }
 
 // Where the run of each face begins in the output, and where the last one ends.
-fn run_starts(cursors: &mut [usize], counts: &[u64]) -> usize
+fn run_starts(cursors: &mut [usize; 6], counts: &[u64; 6]) -> usize
     requires { (length cursors.old ≡ 6) × Room counts.now 0 }
     ensures { Starts counts.now cursors.new result }
 {
-    let mut n: usize = 0;
-    let mut f: usize = 0;
-    while f < 6 {
+    let mut n = 0;
+    for (f, count) in counts.iter().enumerate() {
         cursors[f] = n;
-        n += counts[f] as usize;
-        f += 1;
+        n += *count as usize;
     }
     n
 }
@@ -86,35 +79,35 @@ fn mesh_faces(
     ensures { GroupsMade voxels.now voxels_shape interior faces out.old out.new result }
 {
     let strides = kernel_strides(voxels_shape, faces);
-    let minimum = interior.minimum;
-    let at = VoxelIndex::linearize(voxels_shape, minimum);
+    let block = Block { voxels, strides };
+    let point = interior.minimum;
+    let index = VoxelIndex::linearize(voxels_shape, point);
     let slices = Slices::new(voxels_shape, interior);
     let mut counts = [0u64; 6];
-    count::count_slices(voxels, strides, &mut counts, at, slices);
+    block.count_slices(&mut counts, index, slices);
     let mut cursors = [0usize; 6];
     let listed = run_starts(&mut cursors, &counts);
     if listed == 0 {
         return Meshed { listed, counts };
     }
-    list::list_slices(voxels, out, strides, &mut cursors, slices, at, minimum);
+    block.list_slices(out, &mut cursors, Place { index, point }, slices);
     Meshed { listed, counts }
 }
 
-// The answer of an accepted call, and what it lists.
+// The counts of an accepted call, and what it lists.
 fn mesh(
     voxels: &[u16],
     voxels_shape: UVec3,
     interior: Extent,
     faces: [OrientedBlockFace; 6],
     out: &mut [u32],
-) -> MeshAnswer
+) -> Result<[u64; 6], Refusal>
     requires { Meshable voxels.now voxels_shape interior }
-    ensures { outcome result out.new ≡ unit_from (accepted tt) interior (field voxels_shape voxels.now) faces out.old }
+    ensures { outcome (mesh_answer (meaning result)) out.new ≡ unit_from (accepted tt) interior (field voxels_shape voxels.now) faces out.old }
 {
     let capacity = out.len() / 3;
     let meshed = mesh_faces(voxels, out, voxels_shape, interior, faces);
-    let counts = meshed.counts;
-    listing::answered(meshed.listed, capacity, counts)
+    listing::answered(meshed.listed, capacity, meshed.counts)
 }
 
 // A unit quad for every visible face of a voxel in the interior of the box from `min` to `max`: six
@@ -126,14 +119,9 @@ pub fn visible_block_faces(
     max: UVec3,
     faces: [OrientedBlockFace; 6],
     out: &mut [u32],
-) -> MeshAnswer
-    ensures { outcome result out.new ≡ visible_block_faces voxels.now voxels_shape min max faces out.old }
+) -> Result<[u64; 6], Refusal>
+    ensures { outcome (mesh_answer (meaning result)) out.new ≡ visible_block_faces voxels.now voxels_shape min max faces out.old }
 {
-    match bounds::enter_unit(voxels, voxels_shape, min, max, faces) {
-        EntryAnswer::Refused(number, place) => listing::refused(number, place),
-        EntryAnswer::Entered(entry) => {
-            let interior = entry.interior;
-            mesh(voxels, voxels_shape, interior, faces, out)
-        }
-    }
+    let entry = bounds::enter_unit(voxels, voxels_shape, min, max, faces)?;
+    mesh(voxels, voxels_shape, entry.interior, faces, out)
 }

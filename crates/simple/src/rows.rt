@@ -1,4 +1,7 @@
 // What the loops pass through, from an index on: rows of voxels, and slices of rows.
+//
+// The loops over rows and over slices are written out in both passes: each is a `for` of a few lines, and
+// one walk for all would be longer, a trait with what each level asks for and promises as its laws.
 ghost use Rattle.std.specs.Prelude.{◌≡◌};
 ghost use Rattle.voxels.specs.Entered.{Interior};
 ghost use Rattle.simple.specs.Kernel.{slices_of};

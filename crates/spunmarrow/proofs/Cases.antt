@@ -10,10 +10,9 @@ use mir.Syntax.{w32}
 use mir.Val.{SFits, of_z, to_z}
 use mir.Facts.{to_z-of_z}
 use Rattle.geometry.specs.declared.axis.AxisPermutation.{AxisPermutation}
-use Rattle.geometry.specs.declared.face.FaceAnswer.{FaceAnswer}
+use Rattle.geometry.specs.declared.face.OrientedBlockFace.{OrientedBlockFace}
 use Rattle.geometry.specs.Axes.{permutation_of}
 use Rattle.geometry.specs.Refusal.{Answer, accepted, refused, at_place0}
-use Rattle.geometry.specs.Answers.{face_meaning}
 use Rattle.geometry.proofs.Refusals.{applies}
 use Rattle.spunmarrow.specs.Numbers.{numbered, face, face_of}
 
@@ -22,16 +21,16 @@ pub number_none : {A : Type 0} (l : List A) (d : A) {k : ℕ} → length l ≤ k
 unfolding numbered
 number_none l d {k} h = sym (applies (at_place0 17 (leb (length l) k)) [] _ (le-leb (length l) k h))
 
--- What a call reads of a sign's bits is what the sign stands for.
-pub face_read : (s : ℤ) (k : ℕ) {r x : FaceAnswer} → SFits w32 s → face_meaning r ≡ face_of (to_z w32 (of_z w32 s)) k → r ≡ x → face_of s k ≡ face_meaning x
-face_read s k fits read is = ap (λ (s : ℤ). face_of s k) (sym (to_z-of_z fits)) ∙ sym read ∙ ap face_meaning is
+-- What is read of a sign's bits is what the sign stands for.
+pub face_read : (s : ℤ) (k : ℕ) {x : Answer OrientedBlockFace} → SFits w32 s → x ≡ face_of (to_z w32 (of_z w32 s)) k → face_of s k ≡ x
+face_read s k fits read = ap (λ (s : ℤ). face_of s k) (sym (to_z-of_z fits)) ∙ sym read
 
 -- The face of a sign and a number is that of the permutation which the number has,
-pub face_made : (s : ℤ) (k : ℕ) {x : Answer AxisPermutation} {p : AxisPermutation} → SFits w32 s → x ≡ permutation_of k → x ≡ accepted p → accepted (face (to_z w32 (of_z w32 s)) p) ≡ face_of s k
+pub face_made : (s : ℤ) (k : ℕ) {p : AxisPermutation} → SFits w32 s → accepted p ≡ permutation_of k → accepted (face (to_z w32 (of_z w32 s)) p) ≡ face_of s k
 unfolding face_of
-face_made s k fits read is = rw (to_z-of_z fits, sym read ∙ is)
+face_made s k fits read = rw (to_z-of_z fits, ← read)
 
 -- or there is none.
-pub face_refused : (s : ℤ) (k : ℕ) {x : Answer AxisPermutation} {n : ℕ} → x ≡ permutation_of k → x ≡ refused n 0 → refused n 0 ≡ face_of s k
+pub face_refused : (s : ℤ) (k : ℕ) {n p : ℕ} → refused n p ≡ permutation_of k → refused n p ≡ face_of s k
 unfolding face_of
-face_refused s k read is = rw (sym read ∙ is)
+face_refused s k read = rw (← read)

@@ -13,6 +13,11 @@ use lib.Signed.{mag, lt_z, lt_z_no, non_neg, yes_non_neg, nat_abs-le}
 use mir.Syntax.{w32}
 use mir.Val.{SFits, Fits, of_z, to_z, hbits}
 use mir.Facts.{to_z-of_z}
+use Rattle.std.specs.Result.{result_unwrap_or}
+use Rattle.std.specs.declared.result.Result.{Result}
+use Rattle.std.specs.declared.result.Result.TheVariants.{Ok, Err}
+use Rattle.geometry.specs.declared.refusal.Refusal.{Refusal}
+use Rattle.geometry.specs.Answers.{meaning}
 use Rattle.geometry.specs.declared.axis.AxisPermutation.{AxisPermutation}
 use Rattle.geometry.specs.declared.axis.AxisPermutation.TheVariants.{Xyz}
 use Rattle.geometry.specs.Axes.{permutations, no_permutation, permutation_of}
@@ -77,7 +82,7 @@ module _ (numbers : List ℤ) (k : ℕ) {x : Answer AxisPermutation} (fits : mag
     unfolding signed_permutation answer
     face_on e = ask_on 1 (bad_number numbers) k k 6 left h (place_passes (no_signed (number_at numbers k)) k [] (accepts_checked (no_signed (number_at numbers k) ∷ []) (signed_or (number_at numbers k)) (sym read_is ∙ e)))
 
-    pub face_stops : {m : ℕ} → x ≡ refused m 0 → refused m k ≡ t
+    pub face_stops : {m p : ℕ} → x ≡ refused m p → refused m k ≡ t
     unfolding signed_permutation
     face_stops e = ask_stops 1 (bad_number numbers) k k 6 left h (place_refuses (no_signed (number_at numbers k)) k [] (answer_refused _ _ (sym read_is ∙ e)))
 
@@ -87,6 +92,13 @@ module _ (numbers : List ℤ) (k : ℕ) {x : Answer AxisPermutation} (fits : mag
     unfolding signed_permutation face_at
     face_is e = rw (to_z-of_z (sfits_of {z = sign_at numbers k} sign), ← accepts_value _ _ (sym read_is ∙ e))
 
-    pub face_none : {m : ℕ} → x ≡ refused m 0 → face (to_z w32 (of_z w32 (sign_at numbers k))) Xyz ≡ face_at numbers k
+    pub face_none : {m p : ℕ} → x ≡ refused m p → face (to_z w32 (of_z w32 (sign_at numbers k))) Xyz ≡ face_at numbers k
     unfolding face_at
     face_none e = rw (to_z-of_z (sfits_of {z = sign_at numbers k} sign), none_or (number_at numbers k) (sym read_is ∙ e))
+
+-- So it is where a permutation that is not given is the first.
+pub face_or : (numbers : List ℤ) (k : ℕ) (r : Result AxisPermutation Refusal) → mag (number_at numbers k) < 2 ^ hbits w32
+    → meaning r ≡ signed_permutation (to_z w32 (of_z w32 (number_at numbers k))) → mag (sign_at numbers k) < 2 ^ hbits w32
+    → face (to_z w32 (of_z w32 (sign_at numbers k))) (result_unwrap_or r Xyz) ≡ face_at numbers k
+face_or numbers k (Ok p) fits read sign = face_is numbers k fits read sign refl
+face_or numbers k (Err e) fits read sign = face_none numbers k fits read sign refl

@@ -4,18 +4,15 @@ use Rattle.std.specs.Prelude.{Bool, List, [], ◌∷◌, ◌++◌, ℕ, ℤ, Flo
 use Rattle.geometry.specs.declared.axis.Axis.{Axis}
 use Rattle.geometry.specs.declared.face.OrientedBlockFace.{OrientedBlockFace}
 use Rattle.geometry.specs.declared.face.Corner.{Corner}
-use Rattle.geometry.specs.declared.face.QuadCorners.{QuadCorners}
 use Rattle.geometry.specs.declared.face.Position.{Position}
-use Rattle.geometry.specs.declared.face.QuadNormals.{QuadNormals}
 use Rattle.geometry.specs.declared.face.QuadIndices.{QuadIndices}
 use Rattle.geometry.specs.declared.face.TexCoord.{TexCoord}
-use Rattle.geometry.specs.declared.face.QuadTexCoords.{QuadTexCoords}
 use Rattle.geometry.specs.Point.{Point}
 use Rattle.geometry.specs.Refusal.{Answer, accepted, refused, and_then}
-use Rattle.geometry.specs.Face.{quad_normals}
-use Rattle.geometry.specs.Corners.{quad_corners, quad_position}
+use Rattle.geometry.specs.Face.{QuadNormals, quad_normals}
+use Rattle.geometry.specs.Corners.{QuadCorners, quad_corners, quad_position}
 use Rattle.geometry.specs.Vertices.{vertex, quad_indices}
-use Rattle.geometry.specs.Textures.{quad_textures}
+use Rattle.geometry.specs.Textures.{QuadTexCoords, quad_textures}
 use Rattle.spunmarrow.specs.Numbers.{quad_of, face_of, corner_of, axis_of}
 
 -- All that a call leaves: the number that it answers, and its output at exit.

@@ -1,16 +1,20 @@
 -- The meshers' calls (include/spunmarrow.h, 'meshing'). 17 comes before document 01's numbers: then no buffer has changed and all counts are zero.
 use Rattle.std.specs.Prelude.{List, [], ◌∷◌, ◌++◌, ℕ, ℤ}
 use Rattle.geometry.specs.Refusal.{Answer, accepted, refused, checked}
-use Rattle.listing.specs.declared.MeshAnswer.{MeshAnswer}
-use Rattle.listing.specs.Outcome.{mesh_answer, MeshOutcome}
+use Rattle.listing.specs.Outcome.{MeshAnswer, mesh_answer, MeshOutcome}
 use Rattle.simple.specs.Unit.{visible_block_faces}
-use Rattle.greedy.specs.Greedy.{GreedyOutcome, greedy_quads}
+use Rattle.greedy.specs.declared.GreedyMesh.{GreedyMesh}
+use Rattle.greedy.specs.Greedy.{GreedyAnswer, greedy_answer, GreedyOutcome, greedy_quads}
 use Rattle.spunmarrow.specs.Numbers.{point_of}
 use Rattle.spunmarrow.specs.Faces.{bad_numbers, faces_of}
 
 -- An answer's nine numbers: the refusal, or 0 where the call is accepted; its place; the six counts; the tests.
 abbrev pub nine : MeshAnswer → ℕ → List ℕ
 nine a tests = a.refusal ∷ a.place ∷ a.counts ++ (tests ∷ [])
+
+-- The nine numbers of a report or a refusal.
+abbrev pub nine_of : Answer GreedyMesh → List ℕ
+nine_of x = let a : GreedyAnswer = greedy_answer x in nine a.mesh a.tests
 
 -- The answer of a refused call.
 abbrev pub nine_refused : ℕ → ℕ → List ℕ

@@ -10,10 +10,8 @@ use Rattle.geometry.specs.declared.face.Corner.{Corner}
 use Rattle.geometry.specs.declared.face.Corner.TheVariants.{MinuMinv, MaxuMinv, MinuMaxv, MaxuMaxv}
 use Rattle.geometry.specs.Point.{Point, at}
 use Rattle.geometry.specs.Axes.{permutation_of}
-use Rattle.geometry.specs.Refusal.{Answer, accepted, refused, answer, at_place0, and_then}
+use Rattle.geometry.specs.Refusal.{Answer, accepted, answer, at_place0, and_then}
 use Rattle.greedy.specs.Call.{quad_from}
-use Rattle.spunmarrow.specs.declared.numbers.CornerAnswer
-use Rattle.spunmarrow.specs.declared.numbers.AxisAnswer
 
 -- ---- arrays. (`get_or`'s last argument is what stands past the end of a list, and is never given: the arrays have that many numbers by their types.)
 
@@ -38,16 +36,6 @@ corner_of = numbered (MinuMinv ∷ MaxuMinv ∷ MinuMaxv ∷ MaxuMaxv ∷ []) Mi
 -- The axis of a number, 0 to 2: X, Y, Z.
 abbrev pub axis_of : ℕ → Answer Axis
 axis_of = numbered (X ∷ Y ∷ Z ∷ []) X
-
--- What the answers of src/numbers.rt mean.
-abbrev pub corner_meaning : CornerAnswer.CornerAnswer → Answer Corner
-corner_meaning (CornerAnswer.TheVariants.Corner c) = accepted c
-corner_meaning (CornerAnswer.TheVariants.Refused n) = refused n 0
-
--- The same of an axis.
-abbrev pub axis_meaning : AxisAnswer.AxisAnswer → Answer Axis
-axis_meaning (AxisAnswer.TheVariants.Axis a) = accepted a
-axis_meaning (AxisAnswer.TheVariants.Refused n) = refused n 0
 
 -- ---- faces
 

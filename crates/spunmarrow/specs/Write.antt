@@ -1,8 +1,7 @@
 -- The writers' calls (include/spunmarrow.h, 'writing'). 17 comes before document 02's numbers: then the output is as it was and no byte is written.
 use Rattle.std.specs.Prelude.{List, [], ◌∷◌, ℕ, ℤ, get_or}
 use Rattle.geometry.specs.Refusal.{Answer, accepted, refused, checked}
-use Rattle.writing.specs.declared.written.WriteAnswer.{WriteAnswer}
-use Rattle.writing.specs.Written.{WriteOutcome, refused_answer}
+use Rattle.writing.specs.Written.{WriteAnswer, WriteOutcome, refused_answer}
 use Rattle.obj.specs.Obj.{write_obj}
 use Rattle.spunmarrow.specs.Faces.{bad_numbers, faces_of}
 

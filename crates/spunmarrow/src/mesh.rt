@@ -1,32 +1,50 @@
 // The meshers' calls, over crates simple and greedy. `answer` gets nine numbers: the refusal, or 0 where the
 // call is accepted; its place; the six counts; and the tests.
 ghost use Rattle.std.specs.Prelude.{◌≡◌};
-ghost use Rattle.spunmarrow.specs.Mesh.{nine, nine_refused, unit_left, unit_call, greedy_left, greedy_call};
+ghost use Rattle.geometry.specs.Answers.{meaning};
+ghost use Rattle.spunmarrow.specs.Mesh.{nine_of, unit_left, unit_call, greedy_left, greedy_call};
 
 use crate::numbers;
-use geometry::refusal::CheckAnswer;
-use listing::MeshAnswer;
+use geometry::refusal::Refusal;
+use greedy::GreedyMesh;
 
-// Writes the nine numbers of an answer.
-fn write(answer: &mut [u64; 9], mesh: MeshAnswer, tests: u64)
-    ensures { answer.new ≡ nine mesh tests }
+// The nine numbers of what a mesher gave. A refusal has zeros for all counts and for the tests.
+fn nine(gave: Result<GreedyMesh, Refusal>) -> [u64; 9]
+    ensures { result ≡ nine_of (meaning gave) }
 {
-    let counts = mesh.counts;
-    let a = counts[0];
-    let b = counts[1];
-    let c = counts[2];
-    let d = counts[3];
-    let e = counts[4];
-    let f = counts[5];
-    let number = mesh.refusal as u64;
-    *answer = [number, mesh.place, a, b, c, d, e, f, tests];
+    match gave {
+        Ok(mesh) => {
+            let [a, b, c, d, e, f] = mesh.counts;
+            [0, 0, a, b, c, d, e, f, mesh.tests]
+        }
+        Err(refusal) => {
+            let number = u64::from(u32::from(refusal.reason));
+            [number, refusal.place, 0, 0, 0, 0, 0, 0, 0]
+        }
+    }
 }
 
-// Writes the answer of a refused call.
-fn refuse(answer: &mut [u64; 9], number: u32, place: u64)
-    ensures { answer.new ≡ nine_refused number place }
+// Unit meshing makes no tests.
+fn unit(
+    shape: &[u32; 3],
+    min: &[u32; 3],
+    max: &[u32; 3],
+    faces: &[i32; 12],
+    voxels: &[u16],
+    out: &mut [u32],
+) -> Result<GreedyMesh, Refusal>
+    ensures { unit_left (nine_of (meaning result)) out.new ≡ unit_call shape.now min.now max.now faces.now voxels.now out.old }
 {
-    write(answer, listing::refused(number, place), 0);
+    numbers::check_faces(faces)?;
+    let counts = simple::visible_block_faces(
+        voxels,
+        numbers::point(shape),
+        numbers::point(min),
+        numbers::point(max),
+        numbers::faces(faces),
+        out,
+    )?;
+    Ok(GreedyMesh { counts, tests: 0 })
 }
 
 // A unit quad for every visible face inside a box. Refuses by 17, then as `visible_block_faces` does.
@@ -41,22 +59,31 @@ pub fn spunmarrow_visible_block_faces(
 )
     ensures { unit_left answer.new out.new ≡ unit_call shape.now min.now max.now faces.now voxels.now out.old }
 {
-    match numbers::check_faces(faces) {
-        CheckAnswer::Refused(number, place) => {
-            refuse(answer, number, place);
-        }
-        CheckAnswer::Passed => {
-            let meshed = simple::visible_block_faces(
-                voxels,
-                numbers::point(shape),
-                numbers::point(min),
-                numbers::point(max),
-                numbers::faces(faces),
-                out,
-            );
-            write(answer, meshed, 0);
-        }
-    }
+    *answer = nine(unit(shape, min, max, faces, voxels, out));
+}
+
+// Greedy meshing.
+fn greedy(
+    shape: &[u32; 3],
+    min: &[u32; 3],
+    max: &[u32; 3],
+    faces: &[i32; 12],
+    voxels: &[u16],
+    visited: &mut [u8],
+    out: &mut [u32],
+) -> Result<GreedyMesh, Refusal>
+    ensures { greedy_left (nine_of (meaning result)) visited.new out.new ≡ greedy_call shape.now min.now max.now faces.now voxels.now visited.old out.old }
+{
+    numbers::check_faces(faces)?;
+    greedy::greedy_quads(
+        voxels,
+        numbers::point(shape),
+        numbers::point(min),
+        numbers::point(max),
+        numbers::faces(faces),
+        visited,
+        out,
+    )
 }
 
 // The visible faces inside a box as rectangles, each of one merge value. Refuses by 17, then as
@@ -73,22 +100,5 @@ pub fn spunmarrow_greedy_quads(
 )
     ensures { greedy_left answer.new visited.new out.new ≡ greedy_call shape.now min.now max.now faces.now voxels.now visited.old out.old }
 {
-    match numbers::check_faces(faces) {
-        CheckAnswer::Refused(number, place) => {
-            refuse(answer, number, place);
-        }
-        CheckAnswer::Passed => {
-            let meshed = greedy::greedy_quads(
-                voxels,
-                numbers::point(shape),
-                numbers::point(min),
-                numbers::point(max),
-                numbers::faces(faces),
-                visited,
-                out,
-            );
-            let mesh = meshed.mesh;
-            write(answer, mesh, meshed.tests);
-        }
-    }
+    *answer = nine(greedy(shape, min, max, faces, voxels, visited, out));
 }

@@ -2,19 +2,37 @@
 // call is accepted; its place; and how many bytes were written.
 ghost use Rattle.std.specs.Prelude.{◌≡◌};
 ghost use Rattle.digits.specs.Decimal.{spelt, spelling};
+ghost use Rattle.geometry.specs.Answers.{meaning};
+ghost use Rattle.writing.specs.Written.{write_answer};
 ghost use Rattle.spunmarrow.specs.Write.{three, write_left, obj_call};
 
 use crate::numbers;
-use geometry::refusal::CheckAnswer;
-use writing::written;
-use writing::written::WriteAnswer;
+use geometry::refusal::Refusal;
 
-// Writes the three numbers of an answer.
-fn write(answer: &mut [u64; 3], done: WriteAnswer)
-    ensures { answer.new ≡ three done }
+// The three numbers of what a writer gave. A refused one has written nothing.
+fn three(gave: Result<usize, Refusal>) -> [u64; 3]
+    ensures { result ≡ three (write_answer (meaning gave)) }
 {
-    let number = done.refusal as u64;
-    *answer = [number, done.place, done.written];
+    match gave {
+        Ok(written) => [0, 0, written as u64],
+        Err(refusal) => {
+            let number = u64::from(u32::from(refusal.reason));
+            [number, refusal.place, 0]
+        }
+    }
+}
+
+// A mesh as OBJ text.
+fn write_obj(
+    faces: &[i32; 12],
+    counts: &[u64; 6],
+    quads: &[u32],
+    out: &mut [u8],
+) -> Result<usize, Refusal>
+    ensures { write_left (three (write_answer (meaning result))) out.new ≡ obj_call faces.now counts.now quads.now out.old }
+{
+    numbers::check_faces(faces)?;
+    obj::write_obj(numbers::faces(faces), *counts, quads, out)
 }
 
 // A mesh as OBJ text. Refuses by 17, then as `write_obj` does.
@@ -27,15 +45,7 @@ pub fn spunmarrow_write_obj(
 )
     ensures { write_left answer.new out.new ≡ obj_call faces.now counts.now quads.now out.old }
 {
-    match numbers::check_faces(faces) {
-        CheckAnswer::Refused(number, place) => {
-            write(answer, written::refused(number, place));
-        }
-        CheckAnswer::Passed => {
-            let done = obj::write_obj(numbers::faces(faces), numbers::counts(counts), quads, out);
-            write(answer, done);
-        }
-    }
+    *answer = three(write_obj(faces, counts, quads, out));
 }
 
 // A number's decimal digits at the start of a scratch: how many there are, or 0 where they do not fit,

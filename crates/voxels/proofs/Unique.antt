@@ -1,12 +1,9 @@
 -- Every public function's contract leaves one outcome: any two that it allows are equal. Each theorem is about the contract itself, as the function's
 -- generated `Reads` has it (`Post`), and not about a copy of it. No function here is lent anything to write, so its outcome is its result.
-use Rattle.std.proofs.Common.{◌≡◌, ℕ, sym, refl, ap, ◌∙◌}
-use Rattle.geometry.proofs.One.{One, answered}
-use Rattle.geometry.proofs.Unique.{check_one}
+use Rattle.std.proofs.Common.{◌≡◌, ℕ, sym, ap, ◌∙◌}
+use Rattle.geometry.proofs.One.{One, meaning_one}
 use Rattle.voxels.specs.declared.index.VoxelIndex.{VoxelIndex}
 use Rattle.voxels.specs.declared.index.Stride.{Stride}
-use Rattle.voxels.specs.Answers.{entry_meaning}
-use Rattle.voxels.specs.declared.bounds.EntryAnswer
 use Rattle.voxels.proofs.bounds.check_bounds.Reads as check-bounds
 use Rattle.voxels.proofs.bounds.check_faces.Reads as check-faces
 use Rattle.voxels.proofs.bounds.check_max.Reads as check-max
@@ -30,9 +27,6 @@ use Rattle.voxels.proofs.voxel.uniform.Reads as uniform
 
 -- ---- answers that mean the same are the same
 
-entry_one : (r r' : EntryAnswer.EntryAnswer) → entry_meaning r ≡ entry_meaning r' → r ≡ r'
-entry_one = answered entry_meaning EntryAnswer.TheVariants.Entered EntryAnswer.TheVariants.Refused (elim [ EntryAnswer.TheVariants.Entered e ↦ refl | EntryAnswer.TheVariants.Refused n p ↦ refl ])
-
 index_one : (r r' : VoxelIndex) → r.0 ≡ r'.0 → r ≡ r'
 index_one r r' e = ap (λ (n : ℕ). record { 0 = n }) e
 
@@ -42,37 +36,37 @@ stride_one r r' e = ap (λ (n : ℕ). record { 0 = n }) e
 -- ---- the theorems
 
 pub check_shape_unique : One check-shape.Post
-check_shape_unique κs a r r' s s' p q = check_one r r' (p ∙ sym q)
+check_shape_unique κs a r r' s s' p q = meaning_one r r' (p ∙ sym q)
 
 pub check_voxel_count_unique : One check-voxel-count.Post
-check_voxel_count_unique κs a r r' s s' p q = check_one r r' (p ∙ sym q)
+check_voxel_count_unique κs a r r' s s' p q = meaning_one r r' (p ∙ sym q)
 
 pub check_min_unique : One check-min.Post
-check_min_unique κs a r r' s s' p q = check_one r r' (p ∙ sym q)
+check_min_unique κs a r r' s s' p q = meaning_one r r' (p ∙ sym q)
 
 pub check_max_unique : One check-max.Post
-check_max_unique κs a r r' s s' p q = check_one r r' (p ∙ sym q)
+check_max_unique κs a r r' s s' p q = meaning_one r r' (p ∙ sym q)
 
 pub check_span_unique : One check-span.Post
-check_span_unique κs a r r' s s' p q = check_one r r' (p ∙ sym q)
+check_span_unique κs a r r' s s' p q = meaning_one r r' (p ∙ sym q)
 
 pub check_faces_unique : One check-faces.Post
-check_faces_unique κs a r r' s s' p q = check_one r r' (p ∙ sym q)
+check_faces_unique κs a r r' s s' p q = meaning_one r r' (p ∙ sym q)
 
 pub check_visited_count_unique : One check-visited-count.Post
-check_visited_count_unique κs a r r' s s' p q = check_one r r' (p ∙ sym q)
+check_visited_count_unique κs a r r' s s' p q = meaning_one r r' (p ∙ sym q)
 
 pub check_bounds_unique : One check-bounds.Post
-check_bounds_unique κs a r r' s s' p q = check_one r r' (p ∙ sym q)
+check_bounds_unique κs a r r' s s' p q = meaning_one r r' (p ∙ sym q)
 
 pub check_voxels_unique : One check-voxels.Post
-check_voxels_unique κs a r r' s s' p q = check_one r r' (p ∙ sym q)
+check_voxels_unique κs a r r' s s' p q = meaning_one r r' (p ∙ sym q)
 
 pub enter_unit_unique : One enter-unit.Post
-enter_unit_unique κs a r r' s s' p q = entry_one r r' (p ∙ sym q)
+enter_unit_unique κs a r r' s s' p q = meaning_one r r' (p ∙ sym q)
 
 pub enter_greedy_unique : One enter-greedy.Post
-enter_greedy_unique κs a r r' s s' p q = entry_one r r' (p ∙ sym q)
+enter_greedy_unique κs a r r' s s' p q = meaning_one r r' (p ∙ sym q)
 
 pub VoxelIndex-linearize-unique : One VoxelIndex-linearize.Post
 VoxelIndex-linearize-unique κs a r r' s s' p q = index_one r r' (p ∙ sym q)

@@ -4,20 +4,20 @@
 // other calls can put them in other orders with geometry's `first_refusal`.
 ghost use Rattle.std.specs.Prelude.{◌≡◌, ◌+◌, ◌-◌, ◌*◌, ◌<◌, ◌≤◌, Bool, [], ◌∷◌, ◌++◌, length, nat_lt};
 ghost use Rattle.geometry.specs.Refusal.{checked, answer, follow, at_place0, at_place};
-ghost use Rattle.geometry.specs.Answers.{check_meaning};
+ghost use Rattle.geometry.specs.Answers.{number, meaning};
 ghost use Rattle.voxels.specs.Shape.{size};
 ghost use Rattle.voxels.specs.Checks.{bad_axis, bad_shape, few_voxels, min_above_max, max_past_shape, min_is_max, bad_faces, few_visited, bad_voxels, bounds_checks, box_checks, unit_checks, greedy_checks};
-ghost use Rattle.voxels.specs.Answers.{entry_meaning, entry};
+ghost use Rattle.voxels.specs.Answers.{entry};
 ghost use Rattle.voxels.specs.Entered.{most_voxels, Held};
 ghost use Rattle.voxels.specs.Rows.{RowLent, RowsLent, SlicesLent, AtMost, bad_at, row, rows, slices};
 
 use crate::extent::Extent;
 use crate::index::{Stride, VoxelIndex};
-use crate::{refusal, voxel};
+use crate::voxel;
 use geometry::LARGEST_AXIS;
 use geometry::axis::Axis;
 use geometry::face::OrientedBlockFace;
-use geometry::refusal::{CheckAnswer, first_refusal};
+use geometry::refusal::{Reason, Refusal, first_refusal};
 use geometry::vector::UVec3;
 
 // What an accepted call needs of its block.
@@ -29,27 +29,20 @@ pub struct Entry {
     pub interior: Extent,
 }
 
-// What an accepted call needs, or the refusal number and its place.
-#[derive(Clone, Copy)]
-pub enum EntryAnswer {
-    Entered(Entry),
-    Refused(u32, u64),
-}
-
 // A refusal on the first axis where it applies.
-fn check_axes(number: u32, x: bool, y: bool, z: bool) -> CheckAnswer
-    ensures { check_meaning result ≡ checked (at_place0 number x ∷ at_place 1 (at_place0 number y) ∷ at_place 2 (at_place0 number z) ∷ []) }
+fn check_axes(reason: Reason, x: bool, y: bool, z: bool) -> Result<(), Refusal>
+    ensures { meaning result ≡ checked (at_place0 (number reason) x ∷ at_place 1 (at_place0 (number reason) y) ∷ at_place 2 (at_place0 (number reason) z) ∷ []) }
 {
     if x {
-        return CheckAnswer::Refused(number, 0);
+        return Err(reason.at(0));
     }
     if y {
-        return CheckAnswer::Refused(number, 1);
+        return Err(reason.at(1));
     }
     if z {
-        return CheckAnswer::Refused(number, 2);
+        return Err(reason.at(2));
     }
-    CheckAnswer::Passed
+    Ok(())
 }
 
 // Whether an axis of a shape is 0 or above the largest.
@@ -63,11 +56,11 @@ fn bad_axis(n: u32) -> bool
 }
 
 // 1: an axis of the shape is 0 or above the largest.
-pub fn check_shape(voxels_shape: UVec3) -> CheckAnswer
-    ensures { check_meaning result ≡ checked (bad_shape voxels_shape) }
+pub fn check_shape(voxels_shape: UVec3) -> Result<(), Refusal>
+    ensures { meaning result ≡ checked (bad_shape voxels_shape) }
 {
     check_axes(
-        refusal::SHAPE,
+        Reason::Shape,
         bad_axis(voxels_shape.x),
         bad_axis(voxels_shape.y),
         bad_axis(voxels_shape.z),
@@ -86,21 +79,21 @@ fn fewer(lent: usize, x: u32, y: u32, z: u32) -> bool
 }
 
 // 2: fewer voxels lent than the shape has.
-pub fn check_voxel_count(lent: usize, voxels_shape: UVec3) -> CheckAnswer
-    ensures { check_meaning result ≡ checked (few_voxels lent voxels_shape) }
+pub fn check_voxel_count(lent: usize, voxels_shape: UVec3) -> Result<(), Refusal>
+    ensures { meaning result ≡ checked (few_voxels lent voxels_shape) }
 {
     if fewer(lent, voxels_shape.x, voxels_shape.y, voxels_shape.z) {
-        return CheckAnswer::Refused(refusal::FEW_VOXELS, 0);
+        return Err(Reason::FewVoxels.at(0));
     }
-    CheckAnswer::Passed
+    Ok(())
 }
 
 // 3: min above max on an axis.
-pub fn check_min(min: UVec3, max: UVec3) -> CheckAnswer
-    ensures { check_meaning result ≡ checked (min_above_max min max) }
+pub fn check_min(min: UVec3, max: UVec3) -> Result<(), Refusal>
+    ensures { meaning result ≡ checked (min_above_max min max) }
 {
     check_axes(
-        refusal::MIN_ABOVE_MAX,
+        Reason::MinAboveMax,
         max.x < min.x,
         max.y < min.y,
         max.z < min.z,
@@ -108,11 +101,11 @@ pub fn check_min(min: UVec3, max: UVec3) -> CheckAnswer
 }
 
 // 4: max at or past the shape on an axis.
-pub fn check_max(voxels_shape: UVec3, max: UVec3) -> CheckAnswer
-    ensures { check_meaning result ≡ checked (max_past_shape voxels_shape max) }
+pub fn check_max(voxels_shape: UVec3, max: UVec3) -> Result<(), Refusal>
+    ensures { meaning result ≡ checked (max_past_shape voxels_shape max) }
 {
     check_axes(
-        refusal::MAX_PAST_SHAPE,
+        Reason::MaxPastShape,
         voxels_shape.x <= max.x,
         voxels_shape.y <= max.y,
         voxels_shape.z <= max.z,
@@ -120,11 +113,11 @@ pub fn check_max(voxels_shape: UVec3, max: UVec3) -> CheckAnswer
 }
 
 // 5: min equal to max on an axis.
-pub fn check_span(min: UVec3, max: UVec3) -> CheckAnswer
-    ensures { check_meaning result ≡ checked (min_is_max min max) }
+pub fn check_span(min: UVec3, max: UVec3) -> Result<(), Refusal>
+    ensures { meaning result ≡ checked (min_is_max min max) }
 {
     check_axes(
-        refusal::MIN_IS_MAX,
+        Reason::MinIsMax,
         min.x == max.x,
         min.y == max.y,
         min.z == max.z,
@@ -132,31 +125,25 @@ pub fn check_span(min: UVec3, max: UVec3) -> CheckAnswer
 }
 
 // 6: a face's sign is neither 1 nor -1.
-pub fn check_faces(faces: [OrientedBlockFace; 6]) -> CheckAnswer
-    ensures { check_meaning result ≡ checked (bad_faces faces) }
+pub fn check_faces(faces: [OrientedBlockFace; 6]) -> Result<(), Refusal>
+    ensures { meaning result ≡ checked (bad_faces faces) }
 {
-    let mut k: usize = 0;
-    while k < 6 {
-        let face = faces[k];
-        match face.check_sign() {
-            CheckAnswer::Refused(number, _) => {
-                return CheckAnswer::Refused(number, k as u64);
-            }
-            CheckAnswer::Passed => {}
+    for (k, face) in faces.iter().enumerate() {
+        if let Err(refusal) = face.check_sign() {
+            return Err(refusal.reason.at(k as u64));
         }
-        k += 1;
     }
-    CheckAnswer::Passed
+    Ok(())
 }
 
 // 7: a visited buffer shorter than the shape has voxels.
-pub fn check_visited_count(lent: usize, voxels_shape: UVec3) -> CheckAnswer
-    ensures { check_meaning result ≡ checked (few_visited lent voxels_shape) }
+pub fn check_visited_count(lent: usize, voxels_shape: UVec3) -> Result<(), Refusal>
+    ensures { meaning result ≡ checked (few_visited lent voxels_shape) }
 {
     if fewer(lent, voxels_shape.x, voxels_shape.y, voxels_shape.z) {
-        return CheckAnswer::Refused(refusal::FEW_VISITED, 0);
+        return Err(Reason::FewVisited.at(0));
     }
-    CheckAnswer::Passed
+    Ok(())
 }
 
 // The greatest voxel of a row, or 0. The loop has no way out but its end, so that it is vectorized.
@@ -164,45 +151,39 @@ fn greatest(voxels: &[u16], start: VoxelIndex, wide: u32) -> u16
     requires { RowLent (length voxels.now) start.0 wide }
     ensures { AtMost voxels.now start.0 wide result }
 {
-    let i = start.0 as usize;
-    let n = wide as usize;
+    let first = start.0 as usize;
+    let end = first + wide as usize;
     let mut most: u16 = 0;
-    let mut k: usize = 0;
-    while k < n {
-        let v = voxels[i + k];
-        k += 1;
-        if most < v {
-            most = v;
-        }
+    for i in first..end {
+        most = most.max(voxels[i]);
     }
     most
 }
 
 // The first bad voxel of a row, voxel by voxel.
-fn first_bad(voxels: &[u16], start: VoxelIndex, wide: u32) -> CheckAnswer
+fn first_bad(voxels: &[u16], start: VoxelIndex, wide: u32) -> Result<(), Refusal>
     requires { RowLent (length voxels.now) start.0 wide }
-    ensures { check_meaning result ≡ checked (row (bad_at voxels.now) wide start.0) }
+    ensures { meaning result ≡ checked (row (bad_at voxels.now) wide start.0) }
 {
-    let mut i = start.0 as usize;
-    let end = i + (wide as usize);
-    while i < end {
+    let first = start.0 as usize;
+    let end = first + (wide as usize);
+    for i in first..end {
         if voxel::class(voxels[i]) == voxel::BAD {
-            return CheckAnswer::Refused(refusal::BAD_VOXEL, i as u64);
+            return Err(Reason::BadVoxel.at(i as u64));
         }
-        i += 1;
     }
-    CheckAnswer::Passed
+    Ok(())
 }
 
 // The first bad voxel of a row. Bad voxels have the greatest numbers: where the greatest voxel is not
 // bad, none is.
-fn check_row(voxels: &[u16], start: VoxelIndex, wide: u32) -> CheckAnswer
+fn check_row(voxels: &[u16], start: VoxelIndex, wide: u32) -> Result<(), Refusal>
     requires { RowLent (length voxels.now) start.0 wide }
-    ensures { check_meaning result ≡ checked (row (bad_at voxels.now) wide start.0) }
+    ensures { meaning result ≡ checked (row (bad_at voxels.now) wide start.0) }
 {
     let most = greatest(voxels, start, wide);
     if voxel::class(most) < voxel::BAD {
-        return CheckAnswer::Passed;
+        return Ok(());
     }
     first_bad(voxels, start, wide)
 }
@@ -214,24 +195,17 @@ fn check_each_row(
     wide: u32,
     y_stride: Stride,
     high: u32,
-) -> CheckAnswer
+) -> Result<(), Refusal>
     requires { RowsLent (length voxels.now) start.0 wide y_stride.0 high }
-    ensures { check_meaning result ≡ checked (rows (bad_at voxels.now) wide y_stride.0 high start.0) }
+    ensures { meaning result ≡ checked (rows (bad_at voxels.now) wide y_stride.0 high start.0) }
 {
     let step = y_stride.0;
-    let mut k: u32 = 0;
     let mut i = start.0;
-    while k < high {
-        match check_row(voxels, VoxelIndex(i), wide) {
-            CheckAnswer::Refused(number, place) => {
-                return CheckAnswer::Refused(number, place);
-            }
-            CheckAnswer::Passed => {}
-        }
-        k += 1;
+    for k in 0..high {
+        check_row(voxels, VoxelIndex(i), wide)?;
         i += step;
     }
-    CheckAnswer::Passed
+    Ok(())
 }
 
 // The first bad voxel of rows that lie a stride apart. Rows that touch are one row.
@@ -241,9 +215,9 @@ fn check_rows(
     wide: u32,
     y_stride: Stride,
     high: u32,
-) -> CheckAnswer
+) -> Result<(), Refusal>
     requires { RowsLent (length voxels.now) start.0 wide y_stride.0 high }
-    ensures { check_meaning result ≡ checked (rows (bad_at voxels.now) wide y_stride.0 high start.0) }
+    ensures { meaning result ≡ checked (rows (bad_at voxels.now) wide y_stride.0 high start.0) }
 {
     if wide == y_stride.0 {
         return check_row(voxels, start, wide * high);
@@ -260,24 +234,17 @@ fn check_slices(
     high: u32,
     z_stride: Stride,
     deep: u32,
-) -> CheckAnswer
+) -> Result<(), Refusal>
     requires { SlicesLent (length voxels.now) start.0 wide y_stride.0 high z_stride.0 deep }
-    ensures { check_meaning result ≡ checked (slices (bad_at voxels.now) wide y_stride.0 high z_stride.0 deep start.0) }
+    ensures { meaning result ≡ checked (slices (bad_at voxels.now) wide y_stride.0 high z_stride.0 deep start.0) }
 {
     let step = z_stride.0;
-    let mut k: u32 = 0;
     let mut i = start.0;
-    while k < deep {
-        match check_rows(voxels, VoxelIndex(i), wide, y_stride, high) {
-            CheckAnswer::Refused(number, place) => {
-                return CheckAnswer::Refused(number, place);
-            }
-            CheckAnswer::Passed => {}
-        }
-        k += 1;
+    for k in 0..deep {
+        check_rows(voxels, VoxelIndex(i), wide, y_stride, high)?;
         i += step;
     }
-    CheckAnswer::Passed
+    Ok(())
 }
 
 // How many voxels an axis of a box spans, max included.
@@ -289,9 +256,9 @@ fn span(min: u32, max: u32) -> u32
 }
 
 // The first bad voxel of a box that lies in the shape, rows in memory order.
-fn check_box(voxels: &[u16], voxels_shape: UVec3, min: UVec3, max: UVec3) -> CheckAnswer
+fn check_box(voxels: &[u16], voxels_shape: UVec3, min: UVec3, max: UVec3) -> Result<(), Refusal>
     requires { Held voxels_shape (length voxels.now) min max }
-    ensures { check_meaning result ≡ checked (bad_voxels voxels.now voxels_shape min max) }
+    ensures { meaning result ≡ checked (bad_voxels voxels.now voxels_shape min max) }
 {
     let start = VoxelIndex::linearize(voxels_shape, min);
     let y_stride = Stride::new(voxels_shape, Axis::Y);
@@ -303,8 +270,8 @@ fn check_box(voxels: &[u16], voxels_shape: UVec3, min: UVec3, max: UVec3) -> Che
 }
 
 // 1 to 5: where they pass, the box lies in the shape and every voxel of it was lent.
-pub fn check_bounds(lent: usize, voxels_shape: UVec3, min: UVec3, max: UVec3) -> CheckAnswer
-    ensures { check_meaning result ≡ checked (bounds_checks lent voxels_shape min max) }
+pub fn check_bounds(lent: usize, voxels_shape: UVec3, min: UVec3, max: UVec3) -> Result<(), Refusal>
+    ensures { meaning result ≡ checked (bounds_checks lent voxels_shape min max) }
 {
     let shape = check_shape(voxels_shape);
     let counted = first_refusal(shape, check_voxel_count(lent, voxels_shape));
@@ -314,13 +281,16 @@ pub fn check_bounds(lent: usize, voxels_shape: UVec3, min: UVec3, max: UVec3) ->
 }
 
 // 8, a bad voxel inside the box, after 1 to 5, without which there is no box to look at.
-pub fn check_voxels(voxels: &[u16], voxels_shape: UVec3, min: UVec3, max: UVec3) -> CheckAnswer
-    ensures { check_meaning result ≡ checked (box_checks voxels.now voxels_shape min max) }
+pub fn check_voxels(
+    voxels: &[u16],
+    voxels_shape: UVec3,
+    min: UVec3,
+    max: UVec3,
+) -> Result<(), Refusal>
+    ensures { meaning result ≡ checked (box_checks voxels.now voxels_shape min max) }
 {
-    match check_bounds(voxels.len(), voxels_shape, min, max) {
-        CheckAnswer::Refused(number, place) => CheckAnswer::Refused(number, place),
-        CheckAnswer::Passed => check_box(voxels, voxels_shape, min, max),
-    }
+    check_bounds(voxels.len(), voxels_shape, min, max)?;
+    check_box(voxels, voxels_shape, min, max)
 }
 
 // What an accepted call needs.
@@ -342,27 +312,17 @@ fn entered(voxels_shape: UVec3, lent: usize, min: UVec3, max: UVec3) -> Entry
 
 // The end of an entry: what was refused before, or 8, or what an accepted call needs.
 fn enter(
-    before: CheckAnswer,
+    before: Result<(), Refusal>,
     voxels: &[u16],
     voxels_shape: UVec3,
     min: UVec3,
     max: UVec3,
-) -> EntryAnswer
-    ensures { entry_meaning result ≡ follow (check_meaning before) (answer (box_checks voxels.now voxels_shape min max) (entry voxels_shape min max)) }
+) -> Result<Entry, Refusal>
+    ensures { meaning result ≡ follow (meaning before) (answer (box_checks voxels.now voxels_shape min max) (entry voxels_shape min max)) }
 {
-    match before {
-        CheckAnswer::Refused(number, place) => {
-            return EntryAnswer::Refused(number, place);
-        }
-        CheckAnswer::Passed => {}
-    }
-    match check_voxels(voxels, voxels_shape, min, max) {
-        CheckAnswer::Refused(number, place) => {
-            return EntryAnswer::Refused(number, place);
-        }
-        CheckAnswer::Passed => {}
-    }
-    EntryAnswer::Entered(entered(voxels_shape, voxels.len(), min, max))
+    before?;
+    check_voxels(voxels, voxels_shape, min, max)?;
+    Ok(entered(voxels_shape, voxels.len(), min, max))
 }
 
 // The entry of unit meshing: 1 to 6, then 8.
@@ -372,8 +332,8 @@ pub fn enter_unit(
     min: UVec3,
     max: UVec3,
     faces: [OrientedBlockFace; 6],
-) -> EntryAnswer
-    ensures { entry_meaning result ≡ answer (unit_checks voxels.now voxels_shape min max faces) (entry voxels_shape min max) }
+) -> Result<Entry, Refusal>
+    ensures { meaning result ≡ answer (unit_checks voxels.now voxels_shape min max faces) (entry voxels_shape min max) }
 {
     let bounds = check_bounds(voxels.len(), voxels_shape, min, max);
     let before = first_refusal(bounds, check_faces(faces));
@@ -388,8 +348,8 @@ pub fn enter_greedy(
     max: UVec3,
     faces: [OrientedBlockFace; 6],
     visited: usize,
-) -> EntryAnswer
-    ensures { entry_meaning result ≡ answer (greedy_checks voxels.now voxels_shape min max faces visited) (entry voxels_shape min max) }
+) -> Result<Entry, Refusal>
+    ensures { meaning result ≡ answer (greedy_checks voxels.now voxels_shape min max faces visited) (entry voxels_shape min max) }
 {
     let bounds = check_bounds(voxels.len(), voxels_shape, min, max);
     let faced = first_refusal(bounds, check_faces(faces));

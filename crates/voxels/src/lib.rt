@@ -5,5 +5,4 @@
 pub mod bounds;
 pub mod extent;
 pub mod index;
-pub mod refusal;
 pub mod voxel;

@@ -38,12 +38,12 @@ use Rattle.listing.proofs.Pushed.{lay_many, lay_fits}
 use Rattle.listing.proofs.Outcome.{entry_passed, entry_by_number}
 use Rattle.rules.specs.Group.{passes, Choice, State, scanned, swept, sweep, fresh, group}
 use Rattle.rules.specs.Merger.{voxel_merger}
+use Rattle.geometry.specs.Answers.{meaning}
 use Rattle.rules.specs.Greedy.{greedy_group}
 use Rattle.rules.specs.Demand.{points}
 use Rattle.rules.proofs.Counts.{span, scan_length}
 use Rattle.rules.proofs.Sweep.{sweep_length}
-use Rattle.greedy.specs.declared.GreedyAnswer.{GreedyAnswer}
-use Rattle.greedy.specs.Greedy.{Listed, listed, quad_numbers, numbers_of, listed_group, listed_groups, GreedyOutcome, outcome, greedy_from, greedy_quads}
+use Rattle.greedy.specs.Greedy.{Listed, listed, quad_numbers, numbers_of, listed_group, listed_groups, GreedyAnswer, greedy_answer, GreedyOutcome, outcome, greedy_from, greedy_quads}
 use Rattle.greedy.specs.Call.{GroupMeshed}
 use Rattle.greedy.proofs.Call.{outcome_holds}
 use Rattle.greedy.specs.contracts.greedy_quads
@@ -178,9 +178,9 @@ module _ (voxels : List ℕ) (shape min max : Point) (faces : List OrientedBlock
 module _ (κs : Lifetimes.Lfts 3) (a : World.ArgsD greedy_quads.signature κs) (r : World.ResD greedy_quads.signature κs)
     (s : Clauses.AtExit (Kinds.ended_of 3 greedy-quads-kinds.ps greedy-quads-kinds.r) κs) (post : greedy-quads.Post κs a r s) (six : length a.1.1.1.1.0 ≡ 6) where
   -- A call that answers 0 leaves a mesh that passes: its faces, its answer's counts and its output at exit,
-  pub greedy_handed : r.mesh.refusal ≡ 0 → ListedPasses a.1.1.1.1.0 r.mesh.counts s.1.1.1.1.1.1.0.now
+  pub greedy_handed : (greedy_answer (meaning r)).mesh.refusal ≡ 0 → ListedPasses a.1.1.1.1.0 (greedy_answer (meaning r)).mesh.counts s.1.1.1.1.1.1.0.now
   greedy_handed zero = outcome_handed _ _ _ _ _ _ _ _ _ _ post zero six
 
   -- with at most 100,663,296 quads.
-  pub greedy_few : r.mesh.refusal ≡ 0 → total r.mesh.counts ≤ 6 * most_voxels
+  pub greedy_few : (greedy_answer (meaning r)).mesh.refusal ≡ 0 → total (greedy_answer (meaning r)).mesh.counts ≤ 6 * most_voxels
   greedy_few zero = outcome_few _ _ _ _ _ _ _ _ _ _ post zero six

@@ -4,14 +4,13 @@
 use Rattle.std.specs.Prelude.{List, [], ◌∷◌, ◌++◌, map, ℕ, ◌+◌, ltb, length}
 use Rattle.geometry.specs.declared.quad.UnorientedQuad.{UnorientedQuad}
 use Rattle.geometry.specs.declared.face.OrientedBlockFace.{OrientedBlockFace}
-use Rattle.geometry.specs.Refusal.{Answer, accepted, refused, Check, at_place0, at_place}
+use Rattle.geometry.specs.Refusal.{Check, at_place0, at_place}
 use Rattle.geometry.specs.Checks.{bad_quad}
 use Rattle.voxels.specs.Checks.{bad_faces}
 use Rattle.listing.specs.Listing.{capacity}
 use Rattle.listing.specs.Cut.{groups_in}
 use Rattle.greedy.specs.Greedy.{quad_numbers}
 use Rattle.greedy.specs.Call.{quad_from}
-use Rattle.writing.specs.declared.handed.QuadsAnswer
 
 -- ---- the quads
 
@@ -80,8 +79,3 @@ listed_checks = handed_checks quad_numbers
 -- Of a list of quads of five numbers, whatever greedy meshing writes.
 abbrev pub five_checks : List OrientedBlockFace → List ℕ → List ℕ → List Check
 five_checks = handed_checks 5
-
--- What a check of such a list answers: how many quads there are, or the refusal.
-abbrev pub quads_meaning : QuadsAnswer.QuadsAnswer → Answer ℕ
-quads_meaning (QuadsAnswer.TheVariants.Quads n) = accepted n
-quads_meaning (QuadsAnswer.TheVariants.Refused n p) = refused n p

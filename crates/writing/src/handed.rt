@@ -3,24 +3,18 @@
 // lies behind the last quad that is counted is never read.
 ghost use Rattle.std.specs.Prelude.{◌≡◌, ◌≤◌, ◌+◌, ◌*◌, length, get_or};
 ghost use Rattle.geometry.specs.Refusal.{answer, checked};
-ghost use Rattle.geometry.specs.Answers.{check_meaning};
+ghost use Rattle.geometry.specs.Answers.{meaning};
 ghost use Rattle.greedy.specs.Call.{quad_from};
 ghost use Rattle.listing.specs.Listing.{capacity};
-ghost use Rattle.writing.specs.Handed.{total, past_list, bad_quad_at, bad_quads, handed, handed_checks, listed_checks, five_checks, quads_meaning};
+ghost use Rattle.writing.specs.Handed.{total, past_list, bad_quad_at, bad_quads, handed, handed_checks, listed_checks, five_checks};
 ghost use Rattle.writing.specs.Left.{group_left};
 
 use geometry::face::OrientedBlockFace;
 use geometry::quad::UnorientedQuad;
-use geometry::refusal::CheckAnswer;
+use geometry::refusal::{Reason, Refusal};
 use geometry::vector::UVec3;
 use greedy::QUAD_NUMBERS;
 use voxels::bounds;
-
-// Refusal 24: the counts sum to more quads than the list holds.
-pub const COUNTS: u32 = 24;
-
-// Refusal 13: more quads than `MOST_QUADS`, whose vertices would have numbers past 32 bits.
-pub const MANY_VERTICES: u32 = 13;
 
 // The most quads whose vertices, counted from 1, have numbers below 2 to the 32nd.
 pub const MOST_QUADS: u64 = 1073741823;
@@ -28,40 +22,26 @@ pub const MOST_QUADS: u64 = 1073741823;
 // How many numbers a quad of geometry is handed in as.
 const FIVE: usize = 5;
 
-// How many quads a mesh has, or the refusal number and its place.
-#[derive(Clone, Copy)]
-pub enum QuadsAnswer {
-    Quads(u64),
-    Refused(u32, u64),
-}
-
 // How many quads six counts claim, of a list with room for so many. Refuses by 24. The counts are taken
 // off the room one after another, and never added to each other.
-fn count_quads(counts: [u64; 6], room: u64) -> QuadsAnswer
-    ensures { quads_meaning result ≡ answer (past_list room counts) (total counts) }
+fn count_quads(counts: [u64; 6], room: u64) -> Result<u64, Refusal>
+    ensures { meaning result ≡ answer (past_list room counts) (total counts) }
 {
     let mut left = room;
-    let mut k: usize = 0;
-    while k < 6 {
-        let count = counts[k];
-        if left < count {
-            return QuadsAnswer::Refused(COUNTS, 0);
+    for count in &counts {
+        if left < *count {
+            return Err(Reason::Counts.at(0));
         }
-        left -= count;
-        k += 1;
+        left -= *count;
     }
-    let quads = room - left;
-    QuadsAnswer::Quads(quads)
+    Ok(room - left)
 }
 
 // The k-th of some numbers, and 0 where there are fewer.
 fn number(numbers: &[u32], k: usize) -> u32
     ensures { result ≡ get_or numbers.now k 0 }
 {
-    if k < numbers.len() {
-        return numbers[k];
-    }
-    0
+    numbers.get(k).copied().unwrap_or(0)
 }
 
 // The quad of some numbers: minimum x, y, z, width and height. What is missing is 0.
@@ -88,27 +68,22 @@ fn check_group(
     numbers: usize,
     first: usize,
     count: usize,
-) -> CheckAnswer
+) -> Result<(), Refusal>
     requires le_numbers { 5 ≤ numbers }
     requires count_bound { first + count ≤ capacity numbers (length quads.now) }
-    ensures { check_meaning result ≡ checked (group_left bad_quad_at numbers quads.now face first (first * numbers) count) }
+    ensures { meaning result ≡ checked (group_left bad_quad_at numbers quads.now face first (first * numbers) count) }
 {
-    let mut k: usize = 0;
     let mut at = first * numbers;
-    while k < count {
+    for k in 0..count {
         let end = at + FIVE;
         let quad = quad_from(&quads[at..end]);
-        match face.check_quad(quad) {
-            CheckAnswer::Refused(number, _) => {
-                let place = first + k;
-                return CheckAnswer::Refused(number, place as u64);
-            }
-            CheckAnswer::Passed => {}
+        if let Err(refusal) = face.check_quad(quad) {
+            let number = first + k;
+            return Err(refusal.reason.at(number as u64));
         }
         at += numbers;
-        k += 1;
     }
-    CheckAnswer::Passed
+    Ok(())
 }
 
 // Check 12 of all groups.
@@ -117,26 +92,18 @@ fn check_groups(
     counts: [u64; 6],
     quads: &[u32],
     numbers: usize,
-) -> CheckAnswer
+) -> Result<(), Refusal>
     requires le_numbers { 5 ≤ numbers }
     requires counts_bound { total counts ≤ capacity numbers (length quads.now) }
-    ensures { check_meaning result ≡ checked (bad_quads (handed numbers faces counts quads.now)) }
+    ensures { meaning result ≡ checked (bad_quads (handed numbers faces counts quads.now)) }
 {
     let mut first: usize = 0;
-    let mut k: usize = 0;
-    while k < 6 {
-        let face = faces[k];
+    for (k, face) in faces.iter().enumerate() {
         let count = counts[k] as usize;
-        match check_group(face, quads, numbers, first, count) {
-            CheckAnswer::Refused(number, place) => {
-                return CheckAnswer::Refused(number, place);
-            }
-            CheckAnswer::Passed => {}
-        }
+        check_group(*face, quads, numbers, first, count)?;
         first += count;
-        k += 1;
     }
-    CheckAnswer::Passed
+    Ok(())
 }
 
 // The checks of a list with so many numbers a quad, in their order.
@@ -145,39 +112,39 @@ fn check(
     counts: [u64; 6],
     quads: &[u32],
     numbers: usize,
-) -> QuadsAnswer
+) -> Result<u64, Refusal>
     requires { 5 ≤ numbers }
-    ensures { quads_meaning result ≡ answer (handed_checks numbers faces counts quads.now) (total counts) }
+    ensures { meaning result ≡ answer (handed_checks numbers faces counts quads.now) (total counts) }
 {
     let room = quads.len() / numbers;
-    match count_quads(counts, room as u64) {
-        QuadsAnswer::Refused(number, place) => QuadsAnswer::Refused(number, place),
-        QuadsAnswer::Quads(all) => match bounds::check_faces(faces) {
-            CheckAnswer::Refused(number, place) => QuadsAnswer::Refused(number, place),
-            CheckAnswer::Passed => match check_groups(faces, counts, quads, numbers) {
-                CheckAnswer::Refused(number, place) => QuadsAnswer::Refused(number, place),
-                CheckAnswer::Passed => {
-                    if MOST_QUADS < all {
-                        return QuadsAnswer::Refused(MANY_VERTICES, 0);
-                    }
-                    QuadsAnswer::Quads(all)
-                }
-            },
-        },
+    let all = count_quads(counts, room as u64)?;
+    bounds::check_faces(faces)?;
+    check_groups(faces, counts, quads, numbers)?;
+    if MOST_QUADS < all {
+        return Err(Reason::ManyVertices.at(0));
     }
+    Ok(all)
 }
 
 // The checks of a list as greedy meshing writes it: how many quads it has, or the first refusal of 24,
 // 6, 12 and 13.
-pub fn check_listed(faces: [OrientedBlockFace; 6], counts: [u64; 6], quads: &[u32]) -> QuadsAnswer
-    ensures { quads_meaning result ≡ answer (listed_checks faces counts quads.now) (total counts) }
+pub fn check_listed(
+    faces: [OrientedBlockFace; 6],
+    counts: [u64; 6],
+    quads: &[u32],
+) -> Result<u64, Refusal>
+    ensures { meaning result ≡ answer (listed_checks faces counts quads.now) (total counts) }
 {
     check(faces, counts, quads, QUAD_NUMBERS)
 }
 
 // The same of a list of quads of five numbers, whatever greedy meshing writes.
-pub fn check_five(faces: [OrientedBlockFace; 6], counts: [u64; 6], quads: &[u32]) -> QuadsAnswer
-    ensures { quads_meaning result ≡ answer (five_checks faces counts quads.now) (total counts) }
+pub fn check_five(
+    faces: [OrientedBlockFace; 6],
+    counts: [u64; 6],
+    quads: &[u32],
+) -> Result<u64, Refusal>
+    ensures { meaning result ≡ answer (five_checks faces counts quads.now) (total counts) }
 {
     check(faces, counts, quads, FIVE)
 }

@@ -1,5 +1,5 @@
 -- `decimal` meets its contract: what `spell` wrote stands at the start of the scratch, and that part is handed back.
-use mathlib.Core.Path.{refl, sym, ◌∙◌, ap}
+use mathlib.Core.Path.{sym, ◌∙◌, ap}
 use lib.ListN.{length}
 use Rattle.digits.proofs.Written.{spelt_written, part_taken}
 use Rattle.digits.proofs.decimal.Goals as goal
@@ -9,5 +9,5 @@ slice_bounds-result-end c =
     let e = c.spell-count.ensures in
     spelt_written e ∙ sym (ap length (part_taken _ _ e))
 
-pub returns : goal.returns
-returns c = record { result_value = part_taken _ _ c.spell-count.ensures; ref_ptr_value = refl }
+pub returns-clause-result_value : goal.returns-clause-result_value
+returns-clause-result_value c = part_taken _ _ c.spell-count.ensures

@@ -7,18 +7,15 @@ use Rattle.simple.proofs.mesh_faces.Goals.{After-new-slices}
 
 meshing : (c : After-new-slices) →
     let a = c.args in
-    Meshing a.voxels.now a.voxels_shape a.interior a.faces c.kernel_strides-strides.result c.linearize-at.result.0 c.new-slices.result
+    Meshing (record { voxels = a.voxels; strides = c.kernel_strides-strides.result }) a.voxels_shape a.interior a.faces c.linearize-index.result.0 c.new-slices.result
 meshing c =
     record {
       can = c.requires;
       six = search rules;
       kernel = c.kernel_strides-strides.ensures;
-      first = c.linearize-at.ensures;
+      first = c.linearize-index.ensures;
       through = c.new-slices.ensures;
     }
-
-pub new-slices-requires : goal.new-slices-requires
-new-slices-requires c = record { lent = _; entered = c.requires.entered }
 
 pub count_slices-requires : goal.count_slices-requires
 count_slices-requires c = all_countable (meshing (goal.at.count_slices-requires c).After-new-slices)

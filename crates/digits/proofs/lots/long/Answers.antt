@@ -11,8 +11,8 @@ use Rattle.digits.proofs.lots.long.Goals.{After-short-count}
 first_few : (c : After-short-count) → c.short-count.result ≤ 4
 first_few c = omega (arith, c.short-count.ensures.value, digits_at_most 3 (c.args.n / 10000) (omega arith))
 
-pub four-requires : goal.four-requires
-four-requires c = record { n_bound = omega arith; at_in_bounds = omega (arith, first_few (goal.at.four-requires c).After-short-count) }
+pub four-requires-clause-at_in_bounds : goal.four-requires-clause-at_in_bounds
+four-requires-clause-at_in_bounds c = omega (arith, first_few (goal.at.four-requires-clause-at_in_bounds c).After-short-count)
 
 pub overflow_add-result : goal.overflow_add-result
 overflow_add-result c = record { fits = omega (arith, first_few (goal.at.overflow_add-result c).After-short-count) }

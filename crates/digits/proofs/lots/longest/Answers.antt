@@ -11,14 +11,14 @@ use Rattle.digits.proofs.lots.longest.Goals.{After-few-count}
 first_few : (c : After-few-count) → c.few-count.result ≤ 2
 first_few c = omega (arith, c.few-count.ensures.value, digits_at_most 1 (c.args.n / 10000 / 10000) (omega arith))
 
-pub four-requires : goal.four-requires
-four-requires c = record { n_bound = omega arith; at_in_bounds = omega (arith, first_few (goal.at.four-requires c).After-few-count) }
+pub four-requires-clause-at_in_bounds : goal.four-requires-clause-at_in_bounds
+four-requires-clause-at_in_bounds c = omega (arith, first_few (goal.at.four-requires-clause-at_in_bounds c).After-few-count)
 
 pub overflow_add-next : goal.overflow_add-next
 overflow_add-next c = record { fits = omega (arith, first_few (goal.at.overflow_add-next c).After-few-count) }
 
-pub four-requires-2 : goal.four-requires-2
-four-requires-2 c = record { n_bound = omega arith; at_in_bounds = omega (arith, first_few (goal.at.four-requires-2 c).After-few-count) }
+pub four-requires-2-clause-at_in_bounds : goal.four-requires-2-clause-at_in_bounds
+four-requires-2-clause-at_in_bounds c = omega (arith, first_few (goal.at.four-requires-2-clause-at_in_bounds c).After-few-count)
 
 pub overflow_add-result : goal.overflow_add-result
 overflow_add-result c = record { fits = omega (arith, first_few (goal.at.overflow_add-result c).After-few-count) }

@@ -7,7 +7,7 @@ use Rattle.geometry.proofs.Refusals.{applies, passes_alone}
 use Rattle.geometry.proofs.face.check_start.Goals as goal
 
 pub returns-then-first-gt-LAST_START : goal.returns-then-first-gt-LAST_START
-returns-then-first-gt-LAST_START c = sym (applies (bad_start c.args.start) [] _ (lt-ltb last_start c.args.start.0 c.if-first-gt-LAST_START.true))
+returns-then-first-gt-LAST_START c = rw c.at.ensures (sym (applies (bad_start c.args.start) [] _ (lt-ltb last_start c.args.start.0 c.if-first-gt-LAST_START.true)))
 
 pub returns : goal.returns
 returns c = sym (passes_alone (bad_start c.args.start) (le-ltb last_start c.args.start.0 c.if-first-gt-LAST_START.false))

@@ -1,43 +1,44 @@
 -- `mesh` meets its contract: what is measured, and what is left, are all of the text.
 use Rattle.std.proofs.Common.{rules}
 use mathlib.Core.Path.{◌≡◌, sym, ◌∙◌, ap}
-use Prim.Native.Nat.{◌+◌}
 use native.Mathlib.Omega.{arith}
-use lib.ListN.{length, get_or}
+use lib.ListN.{length}
 use Rattle.writing.proofs.Ordered.{order_passed}
 use Rattle.obj.proofs.Lengths.{handed_at_most}
-use Rattle.obj.proofs.Going.{left_from, meshing_start, meshing_ready, meshing_on, meshing_few, text_start, from_measured, from_done}
+use Rattle.obj.proofs.Going.{measured, mesh_ready, mesh_text, groups_next, groups_ready, groups_on, groups_done}
 use Rattle.obj.proofs.measure.mesh.Goals as goal
-use Rattle.obj.proofs.measure.mesh.Goals.{After-group-length}
 
--- The measure of what is left is the group's, and that of those after it.
-next : (c : After-group-length)
-    → let a = c.args in
-    let l = c.loop-k in
-    length (left_from a.quads.now a.faces a.counts l.first l.k) ≡ c.group-length.result + length (left_from a.quads.now a.faces a.counts (l.first + get_or a.counts l.k 0) (l.k + 1))
-next c = from_measured c.loop-k.invariant.0 _ c.loop-k-test.true c.group-length.ensures
+pub loop-face-init : goal.loop-face-init
+loop-face-init c =
+    let m = c.args.mesh.now in
+    let faces : c.into_iter-face-iterator.result.a.rest.now ≡ m.faces = search rules in
+    let counts : c.into_iter-face-iterator.result.b.rest.now ≡ m.counts = search rules in
+    rw (faces, counts) (mesh_ready m.passed, omega (arith, ap length (mesh_text m.quads.now m.faces m.counts)))
 
-pub loop-k-init : goal.loop-k-init
-loop-k-init c =
-    let six_faces : length c.args.faces ≡ 6 = search rules in
-    let six_counts : length c.args.counts ≡ 6 = search rules in
-    (meshing_start c.requires six_faces six_counts, handed_at_most _ _ _ (six_faces ∙ sym six_counts) c.requires, omega (arith, ap length (text_start c.args.quads.now c.args.faces c.args.counts)))
-
-pub group-length-requires : goal.group-length-requires
-group-length-requires c = meshing_ready c.requires c.loop-k.invariant.0 c.loop-k-test.true _
+pub invariant_of-group : goal.invariant_of-group
+invariant_of-group c = let s = c.in-Some.ensures.steps in record { ready = groups_ready _ s.0 s.1 _ c.loop-face.invariant.0 }
 
 pub overflow_add-length : goal.overflow_add-length
 overflow_add-length c =
-    let l = c.loop-k in
-    record { fits = omega (arith, next (goal.at.overflow_add-length c).After-group-length, l.invariant.1, l.invariant.2, (order_passed _ _ _ _ c.requires).few) }
+    let m = c.args.mesh.now in
+    let l = c.loop-face in
+    let s = c.in-Some.ensures.steps in
+    let six_faces : length m.faces ≡ 6 = search rules in
+    let six_counts : length m.counts ≡ 6 = search rules in
+    record { fits = omega (arith, measured _ _ (groups_next m.quads.now s.0 s.1 l.first) c.group-length.ensures, l.invariant.1, handed_at_most m.faces m.counts m.quads.now (six_faces ∙ sym six_counts) m.passed, (order_passed _ _ _ _ m.passed).few) }
 
 pub overflow_add-first : goal.overflow_add-first
-overflow_add-first c = record { fits = omega (arith, meshing_few c.requires c.loop-k.invariant.0 c.loop-k-test.true) }
+overflow_add-first c =
+    let s = c.in-Some.ensures.steps in
+    record { fits = omega (arith, (groups_ready _ s.0 s.1 _ c.loop-face.invariant.0).few) }
 
-pub loop-k-preserved : goal.loop-k-preserved
-loop-k-preserved c =
-    let l = c.loop-k in
-    (meshing_on c.requires l.invariant.0 c.loop-k-test.true, l.invariant.1, omega (arith, next (goal.at.loop-k-preserved c).After-group-length, l.invariant.2))
+pub loop-face-preserved : goal.loop-face-preserved
+loop-face-preserved c =
+    let l = c.loop-face in
+    let s = c.in-Some.ensures.steps in
+    (groups_on _ s.0 s.1 _ l.invariant.0, omega (arith, measured _ _ (groups_next c.args.mesh.now.quads.now s.0 s.1 l.first) c.group-length.ensures, l.invariant.1))
 
 pub returns : goal.returns
-returns c = omega (arith, c.loop-k.invariant.2, ap length (from_done c.loop-k.invariant.0 c.loop-k-test.false))
+returns c =
+    let l = c.loop-face in
+    omega (arith, l.invariant.1, ap length (groups_done c.args.mesh.now.quads.now l.face-iterator.a.rest.now l.face-iterator.b.rest.now l.first c.in-None.ensures.steps))

@@ -1,14 +1,13 @@
 use mathlib.Core.Path.{◌≡◌}
-use Prim.Native.Nat.{◌+◌, ◌-◌, ◌≤◌}
+use Prim.Native.Nat.{◌+◌}
 use lib.ListN.{length}
-use Rattle.writing.specs.Handed.{total}
 use Rattle.obj.specs.Obj.{obj_text}
-use Rattle.obj.specs.Statements.{most_bytes}
-use Rattle.obj.proofs.Going.{Meshing, left_from}
+use Rattle.obj.proofs.Going.{GroupsReady, groups_text}
 use Rattle.obj.proofs.measure.mesh.Given as goal
 
-abbrev pub invariant-loop-k : goal.invariant-loop-k
-invariant-loop-k l = Meshing l.quads l.faces l.counts l.first l.k × (length (obj_text l.faces l.counts l.quads) ≤ most_bytes (total l.counts)) × (l.length + length (left_from l.quads l.faces l.counts l.first l.k) ≡ length (obj_text l.faces l.counts l.quads))
-
-abbrev pub decreases-loop-k : goal.decreases-loop-k
-decreases-loop-k l = 6 - l.k
+abbrev pub invariant-loop-face : goal.invariant-loop-face
+invariant-loop-face l =
+    let faces = l.face-iterator.a.rest.now in
+    let counts = l.face-iterator.b.rest.now in
+    let m = l.fn.mesh in
+    GroupsReady m.quads.now faces counts l.first × (l.length + length (groups_text m.quads.now faces counts l.first) ≡ length (obj_text m.faces m.counts m.quads.now))

@@ -1,52 +1,60 @@
 -- `mesh` meets its contract: what is left, written after what is written, is all of the text.
 use Rattle.std.proofs.Common.{rules}
 use mathlib.Core.List.{◌++◌}
-use mathlib.Core.Path.{refl, sym, ◌∙◌}
-use Prim.Native.Nat.{◌+◌, ◌*◌}
+use mathlib.Core.Path.{◌≡◌, refl, sym}
 use native.Mathlib.Omega.{arith}
-use lib.ListN.{get_or}
-use Rattle.greedy.specs.Greedy.{quad_numbers}
+use Rattle.listing.specs.Listing.{overwritten}
+use Rattle.obj.specs.declared.put.Writer.{Writer}
 use Rattle.obj.specs.Text.{first_line}
-use Rattle.obj.specs.Page.{group_text, Room}
-use Rattle.obj.proofs.Page.{leads_start, leads_on, leads_done, leads_length, leads_room, room_first, room_second, room_as, wrote_both, wrote_as, wrote_length}
-use Rattle.obj.proofs.Going.{left_from, meshing_start, meshing_ready, meshing_on, meshing_few, text_start, from_next, from_done}
+use Rattle.obj.specs.Obj.{obj_text}
+use Rattle.obj.specs.Writer.{Room}
+use Rattle.obj.proofs.Writer.{wrote_both, wrote_as, wrote_whole, room_first, room_second, room_as, leads_start, leads_on, leads_done, leads_room}
+use Rattle.obj.proofs.Going.{groups_text, mesh_ready, mesh_text, groups_next, groups_ready, groups_on, groups_done}
 use Rattle.obj.proofs.put.mesh.Goals as goal
 use Rattle.obj.proofs.put.mesh.Goals.{Start}
 
--- There is room for the text.
-room : (c : Start) → Room (first_line ++ left_from c.args.quads.now c.args.faces c.args.counts 0 0) c.args.out.now 0
-room c = room_as (text_start c.args.quads.now c.args.faces c.args.counts) (record { fits = omega (arith, c.requires.quads_in_bounds) })
+-- A writer of the output as it was has room for the text,
+room : (c : Start) → {p : Writer} → p.at ≡ 0 → p.out.now ≡ c.args.out.now → let m = c.args.mesh.now in Room (obj_text m.faces m.counts m.quads.now) p
+room c {p} at out = record { fits = rw (at, out) (omega (arith, c.requires)) }
 
-pub bytes-next-requires : goal.bytes-next-requires
-bytes-next-requires c = room_first (left_from c.args.quads.now c.args.faces c.args.counts 0 0) (room (goal.at.bytes-next-requires c).Start)
+-- so for the first line and the groups after it.
+room_in_two : (c : Start) → {p : Writer} → p.at ≡ 0 → p.out.now ≡ c.args.out.now → let m = c.args.mesh.now in Room (first_line ++ groups_text m.quads.now m.faces m.counts 0) p
+room_in_two c at out = let m = c.args.mesh.now in room_as (mesh_text m.quads.now m.faces m.counts) (room c at out)
 
-pub loop-k-init : goal.loop-k-init
-loop-k-init c = (meshing_start c.requires.quads_value (search rules) (search rules), leads_start refl)
+pub bytes-requires : goal.bytes-requires
+bytes-requires c = room_first _ (room_in_two (goal.at.bytes-requires c).Start refl refl)
 
-pub group-next-requires : goal.group-next-requires
-group-next-requires c =
-    let l = c.loop-k in
-    let a = c.args in
-    let ready = meshing_ready c.requires.quads_value l.invariant.0 c.loop-k-test.true _ in
-    let rest = left_from a.quads.now a.faces a.counts (l.first + get_or a.counts l.k 0) (l.k + 1) in
-    let here = leads_room l.invariant.1 (room_second (left_from a.quads.now a.faces a.counts 0 0) (room (goal.at.group-next-requires c).Start) c.bytes-next.ensures) in
-    record { group_ready = ready; room = room_first rest (room_as (from_next l.invariant.0 _ c.loop-k-test.true) here) }
+pub loop-face-init : goal.loop-face-init
+loop-face-init c =
+    let faces : c.into_iter-face-iterator.result.a.rest.now ≡ c.args.mesh.now.faces = search rules in
+    let counts : c.into_iter-face-iterator.result.b.rest.now ≡ c.args.mesh.now.counts = search rules in
+    rw (faces, counts) (mesh_ready c.args.mesh.now.passed, leads_start refl)
+
+pub invariant_of-group : goal.invariant_of-group
+invariant_of-group c = let s = c.in-Some.ensures.steps in record { ready = groups_ready _ s.0 s.1 _ c.loop-face.invariant.0 }
+
+pub group-requires : goal.group-requires
+group-requires c =
+    let s = c.in-Some.ensures.steps in
+    let after = room_second _ (room_in_two (goal.at.group-requires c).Start refl refl) c.bytes.ensures in
+    room_first _ (room_as (groups_next _ s.0 s.1 _) (leads_room c.loop-face.invariant.1 after))
 
 pub overflow_add-first : goal.overflow_add-first
-overflow_add-first c = record { fits = omega (arith, meshing_few c.requires.quads_value c.loop-k.invariant.0 c.loop-k-test.true) }
+overflow_add-first c =
+    let s = c.in-Some.ensures.steps in
+    record { fits = omega (arith, (groups_ready _ s.0 s.1 _ c.loop-face.invariant.0).few) }
 
-pub loop-k-preserved : goal.loop-k-preserved
-loop-k-preserved c =
-    let l = c.loop-k in
-    let a = c.args in
-    let here = group_text a.quads.now (get_or a.faces l.k _) l.first (l.first * quad_numbers) (get_or a.counts l.k 0) in
-    (meshing_on c.requires.quads_value l.invariant.0 c.loop-k-test.true, leads_on l.invariant.1 {a = here} (from_next l.invariant.0 _ c.loop-k-test.true) c.group-next.ensures)
-
-pub shape_of-out : goal.shape_of-out
-shape_of-out c = leads_length c.loop-k.invariant.1 ∙ wrote_length c.bytes-next.ensures
+pub loop-face-preserved : goal.loop-face-preserved
+loop-face-preserved c =
+    let s = c.in-Some.ensures.steps in
+    let l = c.loop-face in
+    (groups_on _ s.0 s.1 _ l.invariant.0, leads_on l.invariant.1 (groups_next _ s.0 s.1 _) c.group.ensures)
 
 pub returns : goal.returns
 returns c =
-    let l = c.loop-k in
-    let a = c.args in
-    wrote_as (sym (text_start a.quads.now a.faces a.counts)) (wrote_both c.bytes-next.ensures (leads_done l.invariant.1 (from_done l.invariant.0 c.loop-k-test.false)))
+    let m = c.args.mesh.now in
+    let groups = leads_done c.loop-face.invariant.1 (groups_done _ _ _ _ c.in-None.ensures.steps) in
+    let all = wrote_as (sym (mesh_text m.quads.now m.faces m.counts)) (wrote_both c.bytes.ensures groups) in
+    let same : c.loop-face.writer.out.ghost_name ≡ _ = all.same in
+    let is : c.loop-face.writer.out.now ≡ overwritten (obj_text m.faces m.counts m.quads.now) c.args.out.now = wrote_whole refl (room (goal.at.returns c).Start refl refl) all in
+    record { value = omega (arith, all.at); out_after = search rules }

@@ -1,10 +1,10 @@
-use Prim.Native.Nat.{◌-◌}
-use Rattle.obj.proofs.Page.{Leads}
-use Rattle.obj.proofs.Going.{Meshing, left_from}
+use Rattle.obj.proofs.Going.{GroupsReady, groups_text}
+use Rattle.obj.proofs.Writer.{Leads}
 use Rattle.obj.proofs.put.mesh.Given as goal
 
-abbrev pub invariant-loop-k : goal.invariant-loop-k
-invariant-loop-k l = Meshing l.quads l.faces l.counts l.first l.k × Leads (left_from l.quads l.faces l.counts l.first l.k) l.out l.next (left_from l.quads l.faces l.counts 0 0) l.initial.out l.initial.next
-
-abbrev pub decreases-loop-k : goal.decreases-loop-k
-decreases-loop-k l = 6 - l.k
+abbrev pub invariant-loop-face : goal.invariant-loop-face
+invariant-loop-face l =
+    let faces = l.face-iterator.a.rest.now in
+    let counts = l.face-iterator.b.rest.now in
+    let list = l.fn.mesh.quads.now in
+    GroupsReady list faces counts l.first × Leads (groups_text list faces counts l.first) l.writer (groups_text list l.fn.mesh.faces l.fn.mesh.counts 0) l.initial.writer

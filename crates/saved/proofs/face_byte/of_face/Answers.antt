@@ -3,17 +3,11 @@ use Rattle.std.proofs.Common.{rules}
 use borrow.Author.Rules.{sfits_of}
 use Rattle.geometry.specs.Axes.{minus_one}
 use Rattle.geometry.proofs.Signs.{bits_equal, bits_differ}
-use Rattle.saved.proofs.Codes.{number_small, byte_minus, minus_small, byte_plus}
+use Rattle.saved.proofs.Codes.{byte_minus, byte_plus}
 use Rattle.saved.proofs.face_byte.of_face.Goals as goal
 
-pub overflow_cast-number : goal.overflow_cast-number
-overflow_cast-number c = record { fits = number_small c.args.face c.number-number.ensures }
-
-pub overflow_add-result : goal.overflow_add-result
-overflow_add-result c = record { fits = minus_small c.args.face c.number-number.ensures (bits_equal (sfits_of c.struct_told-1.given.0.1) (search rules) c.if-face-eq4294967295.true) }
-
 pub returns-then-face-eq4294967295 : goal.returns-then-face-eq4294967295
-returns-then-face-eq4294967295 c = byte_minus c.args.face c.number-number.ensures (bits_equal (sfits_of c.struct_told-1.given.0.1) (search rules) c.if-face-eq4294967295.true)
+returns-then-face-eq4294967295 c = byte_minus c.args.face c.from-number.ensures (bits_equal (sfits_of c.struct_told-1.given.0.1) (search rules) c.if-face-eq4294967295.true)
 
 pub returns : goal.returns
-returns c = byte_plus c.args.face c.number-number.ensures (bits_differ _ minus_one c.if-face-eq4294967295.false)
+returns c = byte_plus c.args.face c.from-number.ensures (bits_differ _ minus_one c.if-face-eq4294967295.false)

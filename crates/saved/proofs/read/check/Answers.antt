@@ -1,46 +1,47 @@
 -- `check` meets its contract: the sections refuse, or the face bytes, or the quads decide.
-use mathlib.Core.Path.{◌≡◌, sym, ◌∙◌, ap}
+use Rattle.std.proofs.Common.{rules, ◌≡◌, ◌≤◌, length, sym, ◌∙◌}
+use Rattle.std.proofs.lemmas.List.{take_rest}
 use Rattle.geometry.specs.Refusal.{accepted, checked}
-use Rattle.geometry.specs.Answers.{check_meaning}
+use Rattle.geometry.proofs.Answers.{handed_on}
 use Rattle.saved.specs.Read.{file_checks}
 use Rattle.saved.specs.Private.{form_of}
-use Rattle.saved.proofs.Walking.{face_bytes_inside, walk_start}
+use Rattle.saved.proofs.Walking.{head_inside, face_bytes_inside, walk_start}
 use Rattle.saved.proofs.Reading.{sections_refuse, faces_refuse, quads_decide}
 use Rattle.saved.proofs.read.check.Goals as goal
-use Rattle.saved.proofs.read.check.Goals.{In-Passed}
+use Rattle.saved.proofs.read.check.Goals.{In_ok-check_file, After-first_quads}
 
 -- Past the first check no section is refused.
-file : (c : In-Passed)
-    → let a = c.args in
-    checked (file_checks (form_of a.numbers a.mark.now) a.bytes.now) ≡ accepted tt
-file c = sym c.check_file.ensures ∙ ap check_meaning c.in-Passed.is
+file : (c : In_ok-check_file) → checked (file_checks (form_of c.args.form) c.args.bytes.now) ≡ accepted tt
+file c = sym c.in_ok-check_file.ensures
 
-pub returns-in-Refused : goal.returns-in-Refused
-returns-in-Refused c =
-    let a = c.args in
-    sections_refuse (form_of a.numbers a.mark.now) a.bytes.now (sym c.check_file.ensures ∙ ap check_meaning c.in-Refused.is)
+pub returns-in_err-check_file : goal.returns-in_err-check_file
+returns-in_err-check_file c = handed_on _ _ c.from_residual.ensures.1 ∙ sections_refuse (form_of c.args.form) c.args.bytes.now (sym c.in_err-check_file.ensures)
 
 pub check-requires : goal.check-requires
-check-requires c =
-    let a = c.args in
-    face_bytes_inside (form_of a.numbers a.mark.now) a.bytes.now (file (goal.at.check-requires c).In-Passed)
+check-requires c = face_bytes_inside (form_of c.args.form) c.args.bytes.now (file (goal.at.check-requires c).In_ok-check_file)
 
-pub returns-in-Refused-check : goal.returns-in-Refused-check
-returns-in-Refused-check c =
-    let a = c.args in
-    faces_refuse (form_of a.numbers a.mark.now) a.bytes.now (file (goal.at.returns-in-Refused-check c).In-Passed) (sym c.check.ensures ∙ ap check_meaning c.in-Refused-check.is)
+pub returns-in_err-check : goal.returns-in_err-check
+returns-in_err-check c =
+    handed_on _ _ c.from_residual-in_err-check.ensures.1
+    ∙ faces_refuse (form_of c.args.form) c.args.bytes.now (file (goal.at.returns-in_err-check c).In_ok-check_file) (sym c.in_err-check.ensures)
 
 pub faces-faces-requires : goal.faces-faces-requires
-faces-faces-requires c =
-    let a = c.args in
-    face_bytes_inside (form_of a.numbers a.mark.now) a.bytes.now (file (goal.at.faces-faces-requires c).In-Passed)
+faces-faces-requires c = face_bytes_inside (form_of c.args.form) c.args.bytes.now (file (goal.at.faces-faces-requires c).In_ok-check_file)
+
+-- The quads begin where the form says.
+inside : (c : After-first_quads) → c.first_quads.result ≤ length c.args.bytes.now
+inside c = rw c.first_quads.ensures (head_inside (form_of c.args.form) c.args.bytes.now (sym c.in_ok-check_file.ensures))
+
+pub slice_bounds-check_groups-count : goal.slice_bounds-check_groups-count
+slice_bounds-check_groups-count c = inside c
+
+pub slice_bounds-check_groups-start : goal.slice_bounds-check_groups-start
+slice_bounds-check_groups-start c = let i = inside c in search rules
 
 pub check_groups-requires : goal.check_groups-requires
-check_groups-requires c =
-    let a = c.args in
-    record { le_numbers = (c.requires.five, c.requires.few); walk = walk_start (form_of a.numbers a.mark.now) a.bytes.now (file (goal.at.check_groups-requires c).In-Passed) }
+check_groups-requires c = rw (take_rest, c.first_quads.ensures) (walk_start (form_of c.args.form) c.args.bytes.now (file (goal.at.check_groups-requires c).In_ok-check_file))
 
 pub returns : goal.returns
 returns c =
-    let a = c.args in
-    quads_decide (form_of a.numbers a.mark.now) a.bytes.now (file (goal.at.returns c).In-Passed) (sym c.check.ensures ∙ ap check_meaning c.in-Passed-check.is) c.faces-faces.ensures c.check_groups.ensures
+    quads_decide (form_of c.args.form) c.args.bytes.now (file (goal.at.returns c).In_ok-check_file) (sym c.in_ok-check.ensures) c.faces-faces.ensures
+    (rw (take_rest, c.first_quads.ensures) at c.check_groups.ensures)

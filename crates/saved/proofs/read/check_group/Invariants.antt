@@ -1,11 +1,12 @@
-use Rattle.std.proofs.Common.{◌≡◌, ◌+◌, ◌-◌}
+use Rattle.std.proofs.Common.{◌≡◌, ◌+◌, length, drop}
 use Rattle.geometry.specs.Refusal.{checked}
-use Rattle.saved.specs.Private.{bad_quads_at}
-use Rattle.saved.proofs.Pieces.{Along}
+use Rattle.saved.specs.Bytes.{pieces}
+use Rattle.saved.specs.Form.{quad_size}
+use Rattle.saved.specs.Private.{bad_quads_of}
+use Rattle.saved.proofs.Asking.{bad_pieces}
 use Rattle.saved.proofs.read.check_group.Given as goal
 
 abbrev pub invariant-loop-k : goal.invariant-loop-k
-invariant-loop-k l = Along l.size l.start l.count l.k l.at × (checked (bad_quads_at l.numbers l.bytes l.fn.face (l.first + l.k) l.at (l.count - l.k)) ≡ checked (bad_quads_at l.numbers l.bytes l.fn.face l.first l.start l.count))
-
-abbrev pub decreases-loop-k : goal.decreases-loop-k
-decreases-loop-k l = l.count - l.k
+invariant-loop-k l =
+    checked (bad_pieces l.fn.form.numbers l.fn.face (l.first + length l.yielded) (drop (length l.yielded) (pieces (quad_size l.fn.form.numbers) l.fn.section.count l.fn.section.records.now)))
+    ≡ checked (bad_quads_of l.fn.form.numbers l.fn.face l.first l.fn.section.count l.fn.section.records.now)

@@ -1,62 +1,75 @@
 -- `check_groups` meets its contract: the sections that are left decide as all six do.
-use mathlib.Core.Path.{refl, ap}
-use Prim.Native.Nat.{◌+◌, ◌*◌, ◌≤◌}
-use native.Mathlib.Omega.{arith}
-use lib.ListN.{length}
-use Rattle.geometry.specs.Answers.{check_meaning}
+use Rattle.std.proofs.Common.{rules, ◌≡◌, ◌+◌, ◌*◌, ◌≤◌, false, length, arith, refl, ◌∙◌}
+use native.Mathlib.Nat.{mul-le-mul_right}
+use Rattle.geometry.proofs.Answers.{handed_on}
 use Rattle.saved.specs.Form.{quad_size}
-use Rattle.saved.proofs.Walking.{walk_count, walk_records, walk_on}
-use Rattle.saved.proofs.Asking.{fewer_quads, section_on, section_stops, sections_pass}
+use Rattle.saved.specs.Read.{ends_early, records_in, after_section}
+use Rattle.saved.proofs.Section.{records_length}
+use Rattle.saved.proofs.Walking.{walk_whole, walk_on, after_length}
+use Rattle.saved.proofs.Asking.{section_on, section_stops, sections_pass}
 use Rattle.saved.proofs.read.check_groups.Goals as goal
-use Rattle.saved.proofs.read.check_groups.Goals.{After-at-count}
+use Rattle.saved.proofs.read.check_groups.Goals.{In-loop-face, After-first-section}
 
--- The bytes of the section at hand are the file's.
-held : (c : After-at-count)
-    → c.loop-k.at + 4 + c.at-count.result * quad_size c.args.numbers ≤ length c.args.bytes.now
-held c = walk_records c.loop-k.invariant.0 c.loop-k-test.true c.at-count.ensures
+-- The section at hand is whole,
+whole : (c : In-loop-face) → ends_early (quad_size c.args.form.numbers) c.loop-face.rest.now ≡ false
+whole c = walk_whole c.loop-face.invariant.walk c.loop-face-test.true
 
-pub overflow_mul-size : goal.overflow_mul-size
-overflow_mul-size c = record { fits = omega (arith, c.requires.le_numbers.1) }
+-- it has its records, and what follows it,
+are : (c : After-first-section) → c.first-section.result.records.now ≡ records_in (quad_size c.args.form.numbers) c.loop-face.rest.now
+are c = rw c.quad_size-size.ensures at c.first-section.ensures.records
 
-pub loop-k-init : goal.loop-k-init
-loop-k-init c = (c.requires.walk, omega arith, refl)
+follows : (c : After-first-section) → c.first-section.result.after.now ≡ after_section (quad_size c.args.form.numbers) c.loop-face.rest.now
+follows c = rw c.quad_size-size.ensures at c.first-section.ensures.after
 
-pub at-count-requires : goal.at-count-requires
-at-count-requires c = walk_count c.loop-k.invariant.0 c.loop-k-test.true
+-- and so many bytes.
+exact : (c : After-first-section) → length c.first-section.result.records.now ≡ c.first-section.result.count * quad_size c.args.form.numbers
+exact c =
+    let w = walk_whole c.loop-face.invariant.walk c.loop-face-test.true in
+    rw (are c, c.first-section.ensures.count) (records_length (quad_size c.args.form.numbers) c.loop-face.rest.now w)
 
-pub overflow_add-records : goal.overflow_add-records
-overflow_add-records c = record { fits = omega (arith, held (goal.at.overflow_add-records c).After-at-count) }
+long : (c : After-first-section) → length c.loop-face.rest.now ≡ 4 + length c.first-section.result.records.now + length c.first-section.result.after.now
+long c =
+    let w = walk_whole c.loop-face.invariant.walk c.loop-face-test.true in
+    rw (exact c, c.first-section.ensures.count, follows c) (after_length (quad_size c.args.form.numbers) c.loop-face.rest.now w)
 
-pub check_group-requires : goal.check_group-requires
-check_group-requires c =
-    let l = c.loop-k in
-    record { le_numbers = c.requires.le_numbers; first_le_start = omega (arith, l.invariant.1); numbers_in_bounds = held (goal.at.check_group-requires c).After-at-count }
+-- Its quads are no more than its bytes.
+few : (c : After-first-section) → c.first-section.result.count ≤ length c.first-section.result.records.now
+few c = omega (arith, exact c, mul-le-mul_right {m = 1} {n = quad_size c.args.form.numbers} c.first-section.result.count (omega (arith, c.args.form.fits.five)))
 
-pub returns-in-Refused : goal.returns-in-Refused
-returns-in-Refused c =
-    let l = c.loop-k in
-    section_stops l.invariant.0 _ c.well_formed.0.1.0.1 l.first _ c.at-count.ensures l.invariant.2 c.loop-k-test.true c.check_group.ensures (ap check_meaning c.in-Refused.is)
+pub first-section-requires : goal.first-section-requires
+first-section-requires c = rw c.quad_size-size.ensures (whole (goal.at.first-section-requires c).In-loop-face)
 
-pub overflow_mul-extent : goal.overflow_mul-extent
-overflow_mul-extent c = record { fits = omega (arith, held (goal.at.overflow_mul-extent c).After-at-count) }
+pub check_group-requires-clause-exact : goal.check_group-requires-clause-exact
+check_group-requires-clause-exact c = exact c
 
-pub overflow_add-at : goal.overflow_add-at
-overflow_add-at c = record { fits = omega (arith, held (goal.at.overflow_add-at c).After-at-count) }
+pub check_group-requires-clause-first_bound : goal.check_group-requires-clause-first_bound
+check_group-requires-clause-first_bound c = let l = long c in search rules
+
+pub returns-in_err-check_group : goal.returns-in_err-check_group
+returns-in_err-check_group c =
+    let l = c.loop-face in
+    let s = (goal.at.returns-in_err-check_group c).After-first-section in
+    handed_on _ _ c.from_residual.ensures.1
+    ∙ section_stops l.invariant.walk c.loop-face-test.true c.args.faces (search rules) l.first _ c.first-section.ensures.count (are s) (follows s) l.invariant.left c.in_err-check_group.ensures refl
 
 pub overflow_add-first : goal.overflow_add-first
 overflow_add-first c =
-    let l = c.loop-k in
-    record { fits = omega (arith, held (goal.at.overflow_add-first c).After-at-count, fewer_quads l.first l.at c.at-count.result c.args.numbers l.invariant.1 c.requires.le_numbers.0) }
+    let s = (goal.at.overflow_add-first c).After-first-section in
+    let l = long s in
+    let f = few s in
+    search rules
 
-pub loop-k-preserved : goal.loop-k-preserved
-loop-k-preserved c =
-    let l = c.loop-k in (
-      walk_on l.invariant.0 c.loop-k-test.true c.at-count.ensures,
-      fewer_quads l.first l.at c.at-count.result c.args.numbers l.invariant.1 c.requires.le_numbers.0,
-      section_on l.invariant.0 _ c.well_formed.0.1.0.1 l.first _ c.at-count.ensures l.invariant.2 c.loop-k-test.true c.check_group.ensures (ap check_meaning c.in-Passed.is),
-    )
+pub loop-face-preserved : goal.loop-face-preserved
+loop-face-preserved c =
+    let l = c.loop-face in
+    let s = (goal.at.loop-face-preserved c).After-first-section in
+    record {
+      walk = walk_on l.invariant.walk c.loop-face-test.true (follows s);
+      first = omega (arith, l.invariant.first, long s, few s);
+      left = section_on l.invariant.walk c.loop-face-test.true c.args.faces (search rules) l.first _ c.first-section.ensures.count (are s) (follows s) l.invariant.left c.in_ok-check_group.ensures refl;
+    }
 
 pub returns : goal.returns
 returns c =
-    let l = c.loop-k in
-    sections_pass c.args.numbers c.args.bytes.now l.k l.at _ l.first l.invariant.2 c.well_formed.0.1.0.1 c.loop-k-test.false
+    let l = c.loop-face in
+    sections_pass c.args.form.numbers l.face-index l.rest.now c.args.faces l.first l.invariant.left (search rules) c.loop-face-test.false

@@ -1,9 +1,12 @@
-use Prim.Native.Nat.{◌-◌}
-use Rattle.saved.proofs.Taking.{Took}
+use Rattle.saved.specs.Private.{Walk}
+use Rattle.saved.proofs.Filling.{Filled}
+use Rattle.saved.proofs.Taking.{numbers_left, counts_left}
 use Rattle.saved.proofs.read.take_groups.Given as goal
 
-abbrev pub invariant-loop-k : goal.invariant-loop-k
-invariant-loop-k l = Took l.numbers l.bytes l.start l.initial.out l.counts l.out l.at l.to l.k
-
-abbrev pub decreases-loop-k : goal.decreases-loop-k
-decreases-loop-k l = 6 - l.k
+abbrev pub invariant-loop-count : goal.invariant-loop-count
+invariant-loop-count l =
+    record {
+      walk : Walk l.form.numbers l.count-index l.rest;
+      taken : Filled (numbers_left l.form.numbers l.count-index l.rest) l.out l.at (numbers_left l.form.numbers 0 l.bytes);
+      counted : Filled (counts_left l.form.numbers l.count-index l.rest) l.count-items l.count-index (counts_left l.form.numbers 0 l.bytes);
+    }

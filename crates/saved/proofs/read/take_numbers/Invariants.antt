@@ -1,11 +1,7 @@
-use Prim.Native.Nat.{◌+◌, ◌-◌}
-use Rattle.obj.proofs.Page.{Leads}
-use Rattle.saved.specs.Private.{numbers_at}
-use Rattle.saved.proofs.Pieces.{Along}
+use Rattle.std.proofs.Common.{◌-◌, ◌*◌, length, drop}
+use Rattle.saved.specs.Bytes.{number32, read_all}
+use Rattle.saved.proofs.Filling.{Filled}
 use Rattle.saved.proofs.read.take_numbers.Given as goal
 
 abbrev pub invariant-loop-k : goal.invariant-loop-k
-invariant-loop-k l = Along 4 l.start l.count l.k l.at × Leads (numbers_at l.bytes l.at (l.count - l.k)) l.out (l.to + l.k) (numbers_at l.bytes l.start l.count) l.initial.out l.to
-
-abbrev pub decreases-loop-k : goal.decreases-loop-k
-decreases-loop-k l = l.count - l.k
+invariant-loop-k l = Filled (read_all 4 number32 (length l.initial.out - l.k) (drop (4 * l.k) l.bytes)) l.out l.k (read_all 4 number32 (length l.initial.out) l.bytes)

@@ -1,21 +1,10 @@
 -- `check_file` meets its contract: section 0 refuses, or the others decide.
-use mathlib.Core.Path.{ap}
-use native.Mathlib.Omega.{arith}
-use Rattle.saved.specs.Private.{section_meaning, form_of}
-use Rattle.saved.proofs.Places.{file_refused, start_inside, file_goes_on}
+use Rattle.saved.specs.Private.{form_of}
+use Rattle.saved.proofs.Places.{file_refused, file_goes_on}
 use Rattle.saved.proofs.sections.check_file.Goals as goal
 
-pub returns-in-Refused : goal.returns-in-Refused
-returns-in-Refused c =
-    let a = c.args in
-    file_refused (form_of a.numbers a.mark.now) a.bytes.now c.head_end-head.ensures (ap section_meaning c.in-Refused.is)
+pub returns-in-Some : goal.returns-in-Some
+returns-in-Some c = file_goes_on (form_of c.args.form) c.args.bytes.now c.in-Some.ensures.0 c.in-Some.ensures.1 (rw c.quad_size.ensures at c.check_sections.ensures)
 
-pub check_sections-requires : goal.check_sections-requires
-check_sections-requires c =
-    let a = c.args in
-    record { start_in_bounds = start_inside (form_of a.numbers a.mark.now) a.bytes.now c.head_end-head.ensures (ap section_meaning c.in-Ends.is); le_size = omega (arith, c.requires.five) }
-
-pub returns-in-Ends : goal.returns-in-Ends
-returns-in-Ends c =
-    let a = c.args in
-    file_goes_on (form_of a.numbers a.mark.now) a.bytes.now c.head_end-head.ensures (ap section_meaning c.in-Ends.is) c.check_sections.ensures
+pub returns-in-None : goal.returns-in-None
+returns-in-None c = rw c.at.ensures (file_refused (form_of c.args.form) c.args.bytes.now c.in-None.ensures)

@@ -1,11 +1,7 @@
-use Prim.Native.Nat.{◌-◌, ◌≤◌}
-use Rattle.obj.proofs.Page.{Leads}
-use Rattle.saved.specs.Private.{list_bytes}
-use Rattle.saved.proofs.Writing.{numbers_left}
+use Rattle.std.proofs.Common.{◌*◌, drop}
+use Rattle.saved.specs.Bytes.{written32, written_all}
+use Rattle.saved.proofs.Filling.{Filled}
 use Rattle.saved.proofs.write.numbers.Given as goal
 
 abbrev pub invariant-loop-k : goal.invariant-loop-k
-invariant-loop-k l = (l.k ≤ l.count) × Leads (numbers_left l.list l.from l.count l.k) l.out l.next (list_bytes l.list l.from l.count) l.initial.out l.at
-
-abbrev pub decreases-loop-k : goal.decreases-loop-k
-decreases-loop-k l = l.count - l.k
+invariant-loop-k l = Filled (written_all written32 (drop l.k l.list)) l.out (4 * l.k) (written_all written32 l.list)

@@ -18,4 +18,4 @@ unfolding numbered answer
 returns-in-2 c = rw c.in-2.is
 
 pub returns-in_default : goal.returns-in_default
-returns-in_default c = number_none _ _ (omega arith)
+returns-in_default c = rw c.at.ensures (number_none _ _ (omega arith))

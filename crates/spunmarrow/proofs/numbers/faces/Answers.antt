@@ -4,4 +4,4 @@ use Rattle.spunmarrow.proofs.numbers.faces.Goals as goal
 
 pub returns : goal.returns
 unfolding faces_of
-returns c = rw (c.face_at-a.ensures, c.face_at-b.ensures, c.face_at-c.ensures, c.face_at-d.ensures, c.face_at-e.ensures, c.face_at-f.ensures)
+returns c = rw (c.face_at.ensures, c.face_at-2.ensures, c.face_at-3.ensures, c.face_at-4.ensures, c.face_at-5.ensures, c.face_at-6.ensures)

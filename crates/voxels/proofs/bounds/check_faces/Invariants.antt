@@ -1,10 +1,7 @@
-use Rattle.std.proofs.Common.{◌≡◌, ◌-◌, ◌≤◌, length, drop}
+use Rattle.std.proofs.Common.{◌≡◌, length, drop}
 use Rattle.geometry.specs.Refusal.{checked}
 use Rattle.voxels.specs.Checks.{bad_faces_from, bad_faces}
 use Rattle.voxels.proofs.bounds.check_faces.Given as goal
 
 abbrev pub invariant-loop-k : goal.invariant-loop-k
-invariant-loop-k l = (l.k ≤ 6) × (length l.faces ≡ 6) × (checked (bad_faces_from l.k (drop l.k l.faces)) ≡ checked (bad_faces l.faces))
-
-abbrev pub decreases-loop-k : goal.decreases-loop-k
-decreases-loop-k l = 6 - l.k
+invariant-loop-k l = (length l.fn.faces ≡ 6) × (checked (bad_faces_from l.k (drop l.k l.fn.faces)) ≡ checked (bad_faces l.fn.faces))

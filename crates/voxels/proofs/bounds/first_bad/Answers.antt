@@ -7,7 +7,7 @@ use Rattle.voxels.proofs.bounds.first_bad.Goals as goal
 
 pub loop-i-init : goal.loop-i-init
 unfolding row
-loop-i-init c = let s = c.args in (omega arith, omega arith, rw (add-sub_cancel_left s.start.0 s.wide))
+loop-i-init c = let s = c.args in rw (add-sub_cancel_left s.start.0 s.wide)
 
 pub bounds-voxels-i : goal.bounds-voxels-i
 bounds-voxels-i c =
@@ -17,13 +17,13 @@ bounds-voxels-i c =
 pub returns-then-class-eq-BAD : goal.returns-then-class-eq-BAD
 returns-then-class-eq-BAD c =
     let vs = c.args.voxels.now in
-    ask_stops 1 (bad_at vs) _ _ _ c.loop-i.invariant.2 c.loop-i-test.true (bad_here vs _ c.class.ensures c.if-class-eq-BAD.true)
+    rw c.at.ensures (ask_stops 1 (bad_at vs) _ _ _ c.loop-i.invariant c.loop-i-test.true (bad_here vs _ c.class.ensures c.if-class-eq-BAD.true))
 
 pub loop-i-preserved : goal.loop-i-preserved
 loop-i-preserved c =
     let vs = c.args.voxels.now in
     let kept = c.loop-i.invariant in
-    (omega arith, omega arith, ask_on 1 (bad_at vs) _ _ _ kept.2 c.loop-i-test.true (good_here vs _ c.class.ensures c.if-class-eq-BAD.false))
+    ask_on 1 (bad_at vs) _ _ _ kept c.loop-i-test.true (good_here vs _ c.class.ensures c.if-class-eq-BAD.false)
 
 pub returns : goal.returns
-returns c = ask_done 1 (bad_at c.args.voxels.now) _ _ _ c.loop-i.invariant.2 (omega arith)
+returns c = ask_done 1 (bad_at c.args.voxels.now) _ _ _ c.loop-i.invariant (omega arith)

@@ -6,7 +6,7 @@ use Prim.Native.Nat.{◌+◌, ◌-◌, ◌*◌, ◌≤◌}
 use native.Mathlib.Omega.{arith}
 use lib.ListN.{length, drop}
 use Rattle.geometry.specs.Refusal.{checked}
-use Rattle.geometry.specs.Answers.{check_meaning}
+use Rattle.geometry.specs.Answers.{meaning}
 use Rattle.geometry.specs.Checks.{bad_quad}
 use Rattle.greedy.specs.Call.{quad_from}
 use Rattle.writing.specs.Handed.{bad_quad_at}
@@ -21,7 +21,7 @@ held c = quad_held (length c.args.quads.now) c.loop-k.invariant.0 c.requires.cou
 
 -- The check of the quad at hand is that of the mesh's quad, which stands at its place in the list.
 told : (c : After-check_quad)
-    → check_meaning c.check_quad.result ≡ checked (bad_quad c.args.face (quad_from (drop c.loop-k.at c.args.quads.now)) ∷ [])
+    → meaning c.check_quad.result ≡ checked (bad_quad c.args.face (quad_from (drop c.loop-k.at c.args.quads.now)) ∷ [])
 told c =
     let at = c.loop-k.at in
     let five : 5 ≤ at + 5 - at = omega arith in
@@ -42,14 +42,14 @@ offset_bounds-quads-at c = let h = held (goal.at.offset_bounds-quads-at c).In-lo
 pub slice_bounds-quad_from-end : goal.slice_bounds-quad_from-end
 slice_bounds-quad_from-end c = let h = held (goal.at.slice_bounds-quad_from-end c).In-loop-k in search rules
 
-pub overflow_add-place : goal.overflow_add-place
-overflow_add-place c = record { fits = omega (arith, c.requires.count_bound, capacity_most c.args.numbers (length c.args.quads.now) (omega (arith, c.requires.le_numbers))) }
+pub overflow_add-number : goal.overflow_add-number
+overflow_add-number c = record { fits = omega (arith, c.requires.count_bound, capacity_most c.args.numbers (length c.args.quads.now) (omega (arith, c.requires.le_numbers))) }
 
-pub returns-in-Refused : goal.returns-in-Refused
-returns-in-Refused c =
+pub returns-in-Err : goal.returns-in-Err
+returns-in-Err c =
     let a = c.args in
     let l = c.loop-k in
-    quad_stops a.numbers a.quads.now a.face a.first l.at l.k a.count l.invariant.1 c.loop-k-test.true (sym (told (goal.at.returns-in-Refused c).After-check_quad) ∙ ap check_meaning c.in-Refused.is)
+    rw c.at.ensures (quad_stops a.numbers a.quads.now a.face a.first l.at l.k a.count l.invariant.1 c.loop-k-test.true (sym (told (goal.at.returns-in-Err c).After-check_quad) ∙ ap meaning c.in-Err.is))
 
 pub overflow_add-at : goal.overflow_add-at
 overflow_add-at c = record { fits = omega (arith, held (goal.at.overflow_add-at c).In-loop-k) }
@@ -58,7 +58,7 @@ pub loop-k-preserved : goal.loop-k-preserved
 loop-k-preserved c =
     let a = c.args in
     let l = c.loop-k in
-    (in_on l.invariant.0 c.loop-k-test.true, quad_on a.numbers a.quads.now a.face a.first l.at l.k a.count l.invariant.1 c.loop-k-test.true (sym (told (goal.at.loop-k-preserved c).After-check_quad) ∙ ap check_meaning c.in-Passed.is))
+    (in_on l.invariant.0 c.loop-k-test.true, quad_on a.numbers a.quads.now a.face a.first l.at l.k a.count l.invariant.1 c.loop-k-test.true (sym (told (goal.at.loop-k-preserved c).After-check_quad) ∙ ap meaning c.in_default.is))
 
 pub returns : goal.returns
 returns c =

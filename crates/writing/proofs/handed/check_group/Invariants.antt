@@ -10,6 +10,3 @@ abbrev pub invariant-loop-k : goal.invariant-loop-k
 invariant-loop-k l =
     InGroup l.numbers l.first l.count l.k l.at
     × (checked (group_left bad_quad_at l.numbers l.quads l.face (l.first + l.k) l.at (l.count - l.k)) ≡ checked (group_left bad_quad_at l.numbers l.quads l.face l.first (l.first * l.numbers) l.count))
-
-abbrev pub decreases-loop-k : goal.decreases-loop-k
-decreases-loop-k l = l.count - l.k

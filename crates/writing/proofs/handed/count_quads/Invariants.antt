@@ -1,9 +1,5 @@
-use Prim.Native.Nat.{◌-◌}
 use Rattle.writing.proofs.Taking.{Taking}
 use Rattle.writing.proofs.handed.count_quads.Given as goal
 
-abbrev pub invariant-loop-k : goal.invariant-loop-k
-invariant-loop-k l = Taking l.room l.counts l.left l.k
-
-abbrev pub decreases-loop-k : goal.decreases-loop-k
-decreases-loop-k l = 6 - l.k
+abbrev pub invariant-loop-count : goal.invariant-loop-count
+invariant-loop-count l = Taking l.room l.fn.counts l.left l.count-index

@@ -6,7 +6,7 @@ use Rattle.geometry.proofs.Axes.{no_signed_axis, signed_axis_made}
 use Rattle.geometry.proofs.axis.SignedAxis.new.Goals as goal
 
 pub returns-then-sign-eq0 : goal.returns-then-sign-eq0
-returns-then-sign-eq0 c = sym (no_signed_axis _ _ (zero_bits _ c.ranges.sign.sfits c.if-sign-eq0.true))
+returns-then-sign-eq0 c = rw c.at.ensures (sym (no_signed_axis _ _ (zero_bits _ c.ranges.sign.sfits c.if-sign-eq0.true)))
 
 pub returns : goal.returns
 returns c =

@@ -7,4 +7,4 @@ use Rattle.geometry.proofs.face.OrientedBlockFace.check_indexing.Goals as goal
 pub returns : goal.returns
 returns c =
     let a = c.args in
-    asked_in_turn (face_checks a.self) (bad_start a.start ∷ []) c.check_sign-sign.ensures c.check_start-first.ensures c.first_refusal.ensures
+    asked_in_turn (face_checks a.self) (bad_start a.start ∷ []) c.check_sign.ensures c.check_start.ensures c.first_refusal.ensures

@@ -7,4 +7,4 @@ use Rattle.geometry.proofs.face.OrientedBlockFace.check_placing.Goals as goal
 pub returns : goal.returns
 returns c =
     let a = c.args in
-    asked_in_turn (quad_checks a.self a.quad) (bad_size a.voxel_size ∷ []) c.check_drawing-drawing.ensures c.check_size-size.ensures c.first_refusal.ensures
+    asked_in_turn (quad_checks a.self a.quad) (bad_size a.voxel_size ∷ []) c.check_drawing.ensures c.check_size.ensures c.first_refusal.ensures

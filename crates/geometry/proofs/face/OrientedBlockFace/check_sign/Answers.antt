@@ -16,4 +16,4 @@ pub returns-then-sign : goal.returns-then-sign
 returns-then-sign c = sym (passes_alone (bad_sign c.args.self) (proper_minus_one _ (bits_equal (sfits_of c.struct_told-1.given.0.1) (search rules) c.if-sign.true)))
 
 pub returns : goal.returns
-returns c = sym (applies (bad_sign c.args.self) [] _ (proper_neither _ (bits_differ _ one c.if-sign-eq1.false) (bits_differ _ minus_one c.if-sign.false)))
+returns c = rw c.at.ensures (sym (applies (bad_sign c.args.self) [] _ (proper_neither _ (bits_differ _ one c.if-sign-eq1.false) (bits_differ _ minus_one c.if-sign.false))))

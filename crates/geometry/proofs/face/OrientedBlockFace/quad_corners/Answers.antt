@@ -1,25 +1,25 @@
 -- `OrientedBlockFace::quad_corners` meets its contract: a quad that passed is one that `corners` takes.
 use mathlib.Core.List.{[]}
-use mathlib.Core.Path.{refl}
+use mathlib.Core.Path.{sym}
 use Rattle.geometry.specs.Checks.{quad_checks}
 use Rattle.geometry.specs.Corners.{quad_corners}
-use Rattle.geometry.proofs.Answers.{passed, value_given, number_given}
+use Rattle.geometry.proofs.Answers.{value_given, refusal_given}
 use Rattle.geometry.proofs.Limits.{quad_within_bounds}
 use Rattle.geometry.proofs.face.OrientedBlockFace.quad_corners.Goals as goal
 
-pub corners-requires : goal.corners-requires
-corners-requires c =
-    let a = c.args in
-    quad_within_bounds a.self a.quad [] (passed (quad_checks a.self a.quad) c.check_drawing.ensures c.in-Passed.is)
-
-pub returns-in-Passed : goal.returns-in-Passed
+pub returns-in_err-check_drawing : goal.returns-in_err-check_drawing
 unfolding quad_corners
-returns-in-Passed c =
+returns-in_err-check_drawing c =
     let a = c.args in
-    value_given (quad_checks a.self a.quad) c.check_drawing.ensures _ c.in-Passed.is c.corners.ensures
+    refusal_given (quad_checks a.self a.quad) _ _ c.in_err-check_drawing.field-0.0 c.from_residual.ensures.1 c.in_err-check_drawing.ensures
 
-pub returns-in-Refused : goal.returns-in-Refused
-unfolding quad_corners
-returns-in-Refused c =
+pub invariant_of-corners : goal.invariant_of-corners
+invariant_of-corners c =
     let a = c.args in
-    number_given (quad_checks a.self a.quad) c.check_drawing.ensures _ (refl, (refl, tt)) c.in-Refused.is
+    record { within = quad_within_bounds a.self a.quad [] (sym c.in_ok-check_drawing.ensures) }
+
+pub returns : goal.returns
+unfolding quad_corners
+returns c =
+    let a = c.args in
+    value_given (quad_checks a.self a.quad) _ c.in_ok-check_drawing.ensures (c.corners.ensures)

@@ -1,18 +1,17 @@
--- `OrientedBlockFace::signed_normal` meets its contract: the sign is checked, and `normal` gives the rule's.
-use mathlib.Core.Path.{refl}
+-- `OrientedBlockFace::signed_normal` meets its contract: the normal is given where the sign passed.
 use Rattle.geometry.specs.Checks.{face_checks}
 use Rattle.geometry.specs.Face.{signed_normal}
-use Rattle.geometry.proofs.Answers.{value_given, number_given}
+use Rattle.geometry.proofs.Answers.{value_given, refusal_given}
 use Rattle.geometry.proofs.face.OrientedBlockFace.signed_normal.Goals as goal
 
-pub returns-in-Passed : goal.returns-in-Passed
+pub returns-in_err-check_sign : goal.returns-in_err-check_sign
 unfolding signed_normal
-returns-in-Passed c =
+returns-in_err-check_sign c =
     let a = c.args in
-    value_given (face_checks a.self) c.check_sign.ensures _ c.in-Passed.is c.normal.ensures
+    refusal_given (face_checks a.self) _ _ c.in_err-check_sign.field-0.0 c.from_residual.ensures.1 c.in_err-check_sign.ensures
 
-pub returns-in-Refused : goal.returns-in-Refused
+pub returns : goal.returns
 unfolding signed_normal
-returns-in-Refused c =
+returns c =
     let a = c.args in
-    number_given (face_checks a.self) c.check_sign.ensures _ (refl, tt) c.in-Refused.is
+    value_given (face_checks a.self) _ c.in_ok-check_sign.ensures (c.normal.ensures)

@@ -7,5 +7,5 @@ use Rattle.greedy.proofs.face_scan.FaceScan.new.Goals as goal
 pub returns : goal.returns
 returns c =
     let h = c.requires in
-    scan_from h.lent _ _ h.entered _ _ _ _ _ _ _ _ _ c.axes-axes.ensures c.new-n_stride.ensures c.new-u_stride.ensures c.new-v_stride.ensures c.visibility_offset-visibility_offset.ensures
-    c.new-slices.ensures (c.new-rows.ensures ∙ ap (span_of _ _) c.slower.ensures) (c.new-row.ensures ∙ ap (span_of _ _) c.faster.ensures)
+    scan_from h.lent _ _ h.entered _ _ _ _ _ _ _ _ _ c.axes-axes.ensures c.new-n_stride.ensures c.new.ensures c.new-2.ensures c.visibility_offset.ensures
+    c.new-3.ensures (c.new-4.ensures ∙ ap (span_of _ _) c.slower.ensures) (c.new-5.ensures ∙ ap (span_of _ _) c.faster.ensures)

@@ -3,8 +3,8 @@ use Rattle.voxels.proofs.Entered.{below}
 use Rattle.greedy.proofs.Faces.{span_from}
 use Rattle.greedy.proofs.face_scan.Span.new.Goals as goal
 
-pub overflow_sub-count : goal.overflow_sub-count
-overflow_sub-count c = let a = c.args in let h = c.requires in rw (c.coordinate-start.ensures, c.coordinate-end.ensures) (below h.lent a.voxels_shape a.interior h.entered a.axis)
+pub overflow_sub-result : goal.overflow_sub-result
+overflow_sub-result c = let a = c.args in let h = c.requires in rw (c.coordinate-start.ensures, c.coordinate-end.ensures) (below h.lent a.voxels_shape a.interior h.entered a.axis)
 
 pub returns : goal.returns
-returns c = let h = c.requires in span_from h.lent _ _ h.entered _ _ _ _ c.coordinate-start.ensures c.coordinate-end.ensures c.new-stride.ensures
+returns c = let h = c.requires in span_from h.lent _ _ h.entered _ _ _ _ c.coordinate-start.ensures c.coordinate-end.ensures c.new.ensures

@@ -1,7 +1,0 @@
--- `input::room` is as long as its type says.
-use Rattle.std.proofs.Common.{ℕ, sym}
-use lib.ListN.{length-replicate}
-use Rattle.drawing.proofs.input.room.Goals as goal
-
-pub returns : goal.returns
-returns c = sym (length-replicate {0} {A = ℕ} 65536 0)

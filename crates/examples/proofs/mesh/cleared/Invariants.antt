@@ -1,9 +1,0 @@
--- `mesh::cleared` is safe, and ends: the loop counts the bytes.
-use Rattle.std.proofs.Common.{◌-◌, length}
-use Rattle.examples.proofs.mesh.cleared.Given as goal
-
-abbrev pub invariant-loop-k : goal.invariant-loop-k
-invariant-loop-k l = Unit {0}
-
-abbrev pub decreases-loop-k : goal.decreases-loop-k
-decreases-loop-k l = length l.visited - l.k

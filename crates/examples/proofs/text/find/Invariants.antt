@@ -1,9 +1,0 @@
--- `text::find` is safe, and ends: the loop counts the bytes.
-use Rattle.std.proofs.Common.{◌-◌, length}
-use Rattle.examples.proofs.text.find.Given as goal
-
-abbrev pub invariant-loop-i : goal.invariant-loop-i
-invariant-loop-i l = Unit {0}
-
-abbrev pub decreases-loop-i : goal.decreases-loop-i
-decreases-loop-i l = length l.text - l.i

@@ -1,9 +1,0 @@
--- `words::number` is safe, and ends: the loop counts the bytes.
-use Rattle.std.proofs.Common.{◌-◌, ◌≤◌, length}
-use Rattle.mesh.proofs.words.number.Given as goal
-
-abbrev pub invariant-loop-i : goal.invariant-loop-i
-invariant-loop-i l = l.i ≤ length l.text
-
-abbrev pub decreases-loop-i : goal.decreases-loop-i
-decreases-loop-i l = length l.text - l.i

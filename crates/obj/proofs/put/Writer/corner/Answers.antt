@@ -1,0 +1,12 @@
+-- `corner` meets its contract: a line that starts with `v` and a space.
+use mathlib.Core.Path.{sym}
+use Rattle.obj.specs.Text.{v}
+use Rattle.obj.proofs.Writer.{wrote_as, room_as}
+use Rattle.obj.proofs.Measured.{line_bytes}
+use Rattle.obj.proofs.put.Writer.corner.Goals as goal
+
+pub line-requires : goal.line-requires
+line-requires c = room_as (line_bytes v _ _ _) c.requires
+
+pub returns : goal.returns
+returns c = wrote_as (sym (line_bytes v _ _ _)) c.line.ensures

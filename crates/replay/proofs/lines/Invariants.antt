@@ -1,9 +1,0 @@
--- `lines` is safe, and ends: the loop counts the lines, which are no more than the bytes.
-use Rattle.std.proofs.Common.{◌-◌, ◌≤◌, length}
-use Rattle.replay.proofs.lines.Given as goal
-
-abbrev pub invariant-loop-k : goal.invariant-loop-k
-invariant-loop-k g l = l.k ≤ length l.list
-
-abbrev pub decreases-loop-k : goal.decreases-loop-k
-decreases-loop-k g l = length l.list - l.k
