@@ -7,7 +7,7 @@
 ghost use Rattle.std.specs.Prelude.{◌≡◌, ℕ, List, Option, None, IfSome, IfOk, OnOk, take, length};
 ghost use Rattle.std.specs.Io.KnownBytes.{Appends};
 ghost use Rattle.calls.specs.declared.given.Notation.{Notation};
-ghost use Rattle.calls.specs.Lines.{letter, given, after, line_written, written};
+ghost use Rattle.calls.specs.Lines.{letter, given, after, line_written, written, no_bytes};
 
 pub mod given;
 pub mod show;
@@ -18,6 +18,14 @@ use std::io::{self, Read, Write};
 
 // The most bytes of an input that are its list: what comes after them is not read.
 pub const LONGEST: usize = 65536;
+
+// For the bytes of a list: more of one are not read.
+pub fn room() -> [u8; LONGEST]
+    ensures length { 65536 ≡ length result }
+    ensures bytes { result ≡ no_bytes }
+{
+    [0; LONGEST]
+}
 
 // Reads the list of calls into lent bytes, as much of the input as they hold, and answers the part of
 // them that it filled.
