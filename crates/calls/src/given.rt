@@ -2,7 +2,7 @@
 ghost use Rattle.std.specs.Prelude.{◌≡◌, ◌+◌, ◌*◌, ◌%◌, ◌^◌, length, fold, filter_map, take_while, drop, if◌then◌else◌, IfOk, OnOk};
 ghost use Rattle.std.specs.Io.KnownBytes.{Appends};
 ghost use Rattle.calls.specs.Text.{digit, is_digit, begins, unsigned, number};
-ghost use Rattle.calls.specs.Given.{Reads, signed, axis, point, permutation, permutation_mark, face, face_mark};
+ghost use Rattle.calls.specs.Given.{Reads, Leaves, signed, axis, point, permutation, permutation_mark, face, face_mark};
 
 use crate::{show, text};
 use geometry::axis::{Axis, AxisPermutation};
@@ -126,6 +126,7 @@ impl Given<'_> {
     // A permutation by its number. A question mark is written where there is none, and Xyz taken.
     fn permutation<W: Write>(&mut self, out: &mut W) -> io::Result<AxisPermutation>
         ensures read { IfOk result (Reads permutation self.old self.new) }
+        ensures left { Leaves (λ notation text. (permutation notation text).1) self.old self.new }
         ensures mark { OnOk result (Appends (W.contents out.old) (W.contents out.new)
             (permutation_mark self.old.notation self.old.rest.now)) }
     {
@@ -142,6 +143,7 @@ impl Given<'_> {
     // permutation, and Xyz taken.
     pub fn face<W: Write>(&mut self, out: &mut W) -> io::Result<OrientedBlockFace>
         ensures read { IfOk result (Reads face self.old self.new) }
+        ensures left { Leaves (λ notation text. (face notation text).1) self.old self.new }
         ensures mark { OnOk result (Appends (W.contents out.old) (W.contents out.new)
             (face_mark self.old.notation self.old.rest.now)) }
     {
@@ -155,8 +157,7 @@ impl Given<'_> {
 
     // Goes on past so many bytes.
     pub fn skip(&mut self, count: usize)
-        ensures rest { self.new.rest.now ≡ drop count self.old.rest.now }
-        ensures notation { self.new.notation ≡ self.old.notation }
+        ensures { Leaves (λ _ text. drop count text) self.old self.new }
     {
         self.rest = text::past(self.rest, count);
     }
