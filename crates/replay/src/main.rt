@@ -32,10 +32,11 @@ const MOST: usize = 262143;
 fn replay_record<R: Print>(
     tally: &mut Tally<'_, R>,
     alloc: Global,
+    numbers: &mut Vec<u32>,
     line: &[u8],
 ) -> Result<(), Error> {
-    let numbers = text::numbers(alloc, line)?;
-    let record = Record::new(&numbers)?;
+    text::read_numbers(line, numbers)?;
+    let record = Record::new(numbers)?;
     match record.kind {
         Kind::GreedyQuads => mesh::greedy_quads(tally, alloc, record),
         Kind::VisibleBlockFaces => mesh::visible_block_faces(tally, alloc, record),
@@ -59,6 +60,7 @@ fn replay_list<R: Print>(
     if list.len() > MOST {
         return Ok(Some(ListFault::Long));
     }
+    let mut numbers = Vec::with_capacity(alloc, text::MOST)?;
     let mut ended = false;
     for line in list.split_inclusive(|byte| *byte == b'\n') {
         if ended {
@@ -68,7 +70,7 @@ fn replay_list<R: Print>(
             ended = true;
         } else if !text::is_comment(line) {
             tally.next_record();
-            match replay_record(tally, alloc, line) {
+            match replay_record(tally, alloc, &mut numbers, line) {
                 Ok(()) => {}
                 Err(Error::Malformed(fault)) => tally.malformed(fault)?,
                 Err(Error::Io(error)) => return Err(error),
