@@ -38,7 +38,8 @@ fn digit(b: u8, base: u32) -> Option<u32>
 }
 
 // The number that the digits at the start of a text spell, modulo 2 to the 32nd, which each digit is
-// taken by; and what stands past them.
+// taken by; and what stands past them. In a loop of its own nothing else is carried along.
+#[inline(never)]
 fn spelt(text: &[u8], base: u32) -> (u32, &[u8])
     ensures number { result.0 ≡ fold (λ n d. (n * base % 2 ^ 32 + d) % 2 ^ 32) 0 (filter_map (digit base) (take_while (is_digit base) text.now)) }
     ensures past { result.1.now ≡ drop (length (take_while (is_digit base) text.now)) text.now }
