@@ -78,6 +78,21 @@ impl<'r, R: Print> Tally<'r, R> {
         *answers = answers.saturating_add(1);
     }
 
+    // Says which number of a call differs, and counts it.
+    fn differs<T: Copy + fmt::Display>(
+        &mut self,
+        kind: Kind,
+        what: &str,
+        index: usize,
+        expected: T,
+        came: T,
+    ) -> io::Result<()> {
+        let counts = &mut self.counts[kind as usize];
+        counts.differences = counts.differences.saturating_add(1);
+        let call = self.records;
+        println!(self.rt; "call {call}, {kind}: {what} {index}: expected {expected}, came {came}")
+    }
+
     // Compares numbers of a call, as many as are expected.
     pub fn compare<T: Copy + PartialEq + fmt::Display>(
         &mut self,
@@ -88,12 +103,26 @@ impl<'r, R: Print> Tally<'r, R> {
     ) -> io::Result<()> {
         for (index, (expected, came)) in expected.iter().zip(came).enumerate() {
             if expected != came {
-                let counts = &mut self.counts[kind as usize];
-                counts.differences = counts.differences.saturating_add(1);
-                let call = self.records;
-                println!(self.rt;
-                    "call {call}, {kind}: {what} {index}: expected {expected}, came {came}"
-                )?;
+                self.differs(kind, what, index, *expected, *came)?;
+            }
+        }
+        Ok(())
+    }
+
+    // Compares all numbers of a buffer, of which each index has the one that is expected.
+    pub fn compare_all<T: Copy + PartialEq + fmt::Display, F: Fn(usize) -> T>(
+        &mut self,
+        kind: Kind,
+        what: &str,
+        expected: F,
+        came: &[T],
+    ) -> io::Result<()>
+        requires { F.IsAlwaysCallable expected }
+    {
+        for (index, came) in came.iter().enumerate() {
+            let wanted = expected(index);
+            if wanted != *came {
+                self.differs(kind, what, index, wanted, *came)?;
             }
         }
         Ok(())
