@@ -29,7 +29,8 @@ impl fmt::Display for Counts {
     }
 }
 
-// Counts, and prints each difference as it comes.
+// Counts, and prints each difference as it comes. What prints is not inlined, so that no call which meshes
+// holds the room on the stack that printing takes.
 #[derive(Drop)]
 pub struct Tally<'r, R> {
     rt: &'r R,
@@ -56,12 +57,14 @@ impl<'r, R: Print> Tally<'r, R> {
     }
 
     // Says what is wrong with the record that was read last, which is a difference.
+    #[inline(never)]
     pub fn malformed(&mut self, fault: Fault) -> io::Result<()> {
         self.faults = self.faults.saturating_add(1);
         println!(self.rt; "record {} of the list {fault}", self.records)
     }
 
     // The same of the list.
+    #[inline(never)]
     pub fn wrong_list(&mut self, fault: ListFault) -> io::Result<()> {
         self.faults = self.faults.saturating_add(1);
         println!(self.rt; "{fault}")
@@ -79,6 +82,7 @@ impl<'r, R: Print> Tally<'r, R> {
     }
 
     // Says which number of a call differs, and counts it.
+    #[inline(never)]
     fn differs<T: Copy + fmt::Display>(
         &mut self,
         kind: Kind,
@@ -129,6 +133,7 @@ impl<'r, R: Print> Tally<'r, R> {
     }
 
     // Prints what was counted.
+    #[inline(never)]
     pub fn end(&self) -> io::Result<()> {
         for (kind, counts) in Kind::ALL.iter().zip(&self.counts) {
             println!(self.rt; "{kind}: {counts}")?;
