@@ -1,8 +1,5 @@
 // The text of a list: a line is a record of numbers with a space between, or a comment.
-use crate::fault::{Error, Fault};
-
-// The most numbers of a record, its length among them.
-pub const MOST: usize = 512;
+use crate::fault::Fault;
 
 // The number that some bytes spell: at most ten digits.
 fn number(digits: &[u8]) -> Option<u32> {
@@ -24,18 +21,20 @@ pub fn is_comment(line: &[u8]) -> bool {
     line.starts_with(b"#")
 }
 
-// Reads the numbers of a line, which ends in its newline or with the list, in place of those of the last.
-pub fn read_numbers(line: &[u8], numbers: &mut Vec<u32>) -> Result<(), Error> {
-    numbers.clear();
+// Reads the numbers of a line, which ends in its newline or with the list, into lent room, and answers the
+// part of it that they fill.
+pub fn read_numbers<'a>(line: &[u8], room: &'a mut [u32]) -> Result<&'a [u32], Fault> {
     let whole = line.strip_suffix(b"\n");
+    let mut count: usize = 0;
     for field in whole.unwrap_or(line).split(|byte| *byte == b' ') {
-        if numbers.len() == MOST {
-            return Err(Error::from(Fault::TooLong));
+        if count >= room.len() {
+            return Err(Fault::TooLong);
         }
-        numbers.push(number(field).ok_or(Fault::NoNumber)?)?;
+        room[count] = number(field).ok_or(Fault::NoNumber)?;
+        count += 1;
     }
     if whole.is_none() {
-        return Err(Error::from(Fault::Cut));
+        return Err(Fault::Cut);
     }
-    Ok(())
+    Ok(&room[..count])
 }
