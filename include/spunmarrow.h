@@ -17,7 +17,7 @@
  *   - The processor's floating-point mode is the default: round to nearest, subnormals kept (a program built with
  *     -ffast-math may have changed it), exceptions masked. spunmarrow_corner rests on it. The drawing calls may raise
  *     exception flags, and clear none.
- *   - There is stack for the call. The most that was measured is 840 bytes, of greedy meshing, with its arguments and
+ *   - There is stack for the call. The most that was measured is 1,067 bytes, of greedy meshing, with its arguments and
  *     memset's part among them (host/stack.c); 2 KB are ample.
  * Given that, any numbers at all may be handed in. Nothing is read or written but what the buffers have, nothing is
  * allocated, nothing is kept from call to call, and every call ends. Calls from several threads at once are fine where

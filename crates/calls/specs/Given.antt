@@ -18,6 +18,11 @@ pub record Reads {A : Type 0} (read : Notation → List ℕ → A × List ℕ) (
   pub rest : new.rest.now ≡ (read old.notation old.rest.now).1
   pub notation : new.notation ≡ old.notation
 
+-- What is left is what `left` makes of what was left.
+pub record Leaves (left : Notation → List ℕ → List ℕ) (old new : Given) : Type 0 where
+  pub rest : new.rest.now ≡ left old.notation old.rest.now
+  pub notation : new.notation ≡ old.notation
+
 -- A signed number.
 abbrev pub signed : Notation → List ℕ → ℤ × List ℕ
 signed notation text = let n = number notation text in (cast_signed w32 n.0, n.1)

@@ -1,7 +1,13 @@
 -- The lines of a list, and what is written of each.
-use Rattle.std.specs.Prelude.{ℕ, Bool, true, false, ◌==◌, nat_eq, codes, if◌then◌else◌, Option, Some, option_map, List, [], ◌∷◌, ◌++◌, drop, slice_get}
+use Rattle.std.specs.Prelude.{ℕ, Bool, true, false, ◌==◌, nat_eq, codes, if◌then◌else◌, Option, Some, option_map, List, [], ◌∷◌, ◌++◌, drop, slice_get, replicate}
 use Rattle.std.specs.List.{before_first, after_first, starts_with}
 use Rattle.std.specs.Fmt.{option_append}
+
+-- ---- a list
+
+-- What stands in the bytes for a list before it is read.
+unfoldable pub no_bytes : List ℕ
+no_bytes = replicate 65536 0
 
 -- ---- a line's call
 

@@ -2,7 +2,7 @@
 ghost use Rattle.std.specs.Prelude.{◌≡◌, ◌+◌, ◌*◌, ◌%◌, ◌^◌, length, fold, filter_map, take_while, drop, if◌then◌else◌, IfOk, OnOk};
 ghost use Rattle.std.specs.Io.KnownBytes.{Appends};
 ghost use Rattle.calls.specs.Text.{digit, is_digit, begins, unsigned, number};
-ghost use Rattle.calls.specs.Given.{Reads, signed, axis, point, permutation, permutation_mark, face, face_mark};
+ghost use Rattle.calls.specs.Given.{Reads, Leaves, signed, axis, point, permutation, permutation_mark, face, face_mark};
 
 use crate::{show, text};
 use geometry::axis::{Axis, AxisPermutation};
@@ -37,23 +37,24 @@ fn digit(b: u8, base: u32) -> Option<u32>
     }
 }
 
-// How many digits stand at the start of a text.
-fn digits(text: &[u8], base: u32) -> usize
-    ensures { result ≡ length (take_while (is_digit base) text.now) }
+// The number that the digits at the start of a text spell, modulo 2 to the 32nd, which each digit is
+// taken by; and what stands past them. In a loop of its own nothing else is carried along.
+#[inline(never)]
+fn spelt(text: &[u8], base: u32) -> (u32, &[u8])
+    ensures number { result.0 ≡ fold (λ n d. (n * base % 2 ^ 32 + d) % 2 ^ 32) 0 (filter_map (digit base) (take_while (is_digit base) text.now)) }
+    ensures past { result.1.now ≡ drop (length (take_while (is_digit base) text.now)) text.now }
 {
-    text.iter()
-        .take_while(|b| digit(**b, base).is_some())
-        .count()
-}
-
-// The number that digits spell, modulo 2 to the 32nd, which each digit is taken by.
-fn spelt(digits: &[u8], base: u32) -> u32
-    ensures { result ≡ fold (λ n d. (n * base % 2 ^ 32 + d) % 2 ^ 32) 0 (filter_map (digit base) digits.now) }
-{
-    digits
-        .iter()
-        .filter_map(|b| digit(*b, base))
-        .fold(0u32, |n, d| n.wrapping_mul(base).wrapping_add(d))
+    let mut number = 0u32;
+    let mut rest = text;
+    // Not by iterators: the digits would be gone through once to count them, and once more to take them.
+    while let Some((b, past)) = rest.split_first() {
+        match digit(*b, base) {
+            Some(d) => number = number.wrapping_mul(base).wrapping_add(d),
+            None => return (number, rest),
+        }
+        rest = past;
+    }
+    (number, rest)
 }
 
 impl Given<'_> {
@@ -61,9 +62,9 @@ impl Given<'_> {
     fn unsigned(&mut self, base: u32) -> u32
         ensures { Reads (λ _. unsigned base) self.old self.new result }
     {
-        let (spelling, rest) = self.rest.split_at(digits(self.rest, base));
+        let (number, rest) = spelt(self.rest, base);
         self.rest = text::past(rest, 1);
-        spelt(spelling, base)
+        number
     }
 
     // Goes on past a byte where it stands next, and answers whether it did.
@@ -126,6 +127,7 @@ impl Given<'_> {
     // A permutation by its number. A question mark is written where there is none, and Xyz taken.
     fn permutation<W: Write>(&mut self, out: &mut W) -> io::Result<AxisPermutation>
         ensures read { IfOk result (Reads permutation self.old self.new) }
+        ensures left { Leaves (λ notation text. (permutation notation text).1) self.old self.new }
         ensures mark { OnOk result (Appends (W.contents out.old) (W.contents out.new)
             (permutation_mark self.old.notation self.old.rest.now)) }
     {
@@ -142,6 +144,7 @@ impl Given<'_> {
     // permutation, and Xyz taken.
     pub fn face<W: Write>(&mut self, out: &mut W) -> io::Result<OrientedBlockFace>
         ensures read { IfOk result (Reads face self.old self.new) }
+        ensures left { Leaves (λ notation text. (face notation text).1) self.old self.new }
         ensures mark { OnOk result (Appends (W.contents out.old) (W.contents out.new)
             (face_mark self.old.notation self.old.rest.now)) }
     {
@@ -155,8 +158,7 @@ impl Given<'_> {
 
     // Goes on past so many bytes.
     pub fn skip(&mut self, count: usize)
-        ensures rest { self.new.rest.now ≡ drop count self.old.rest.now }
-        ensures notation { self.new.notation ≡ self.old.notation }
+        ensures { Leaves (λ _ text. drop count text) self.old self.new }
     {
         self.rest = text::past(self.rest, count);
     }

@@ -4,10 +4,10 @@
 // what comes out of the line's call.
 #![tactic(auto)]
 
-ghost use Rattle.std.specs.Prelude.{◌≡◌, ℕ, List, Option, None, IfSome, IfOk, OnOk, take, length};
-ghost use Rattle.std.specs.Io.KnownBytes.{Appends};
+ghost use Rattle.std.specs.Prelude.{◌≡◌, ◌≤◌, ℕ, List, Option, None, IfSome, IfOk, OnOk, take, length};
+ghost use Rattle.std.specs.Io.KnownBytes.{Appends, Consumes};
 ghost use Rattle.calls.specs.declared.given.Notation.{Notation};
-ghost use Rattle.calls.specs.Lines.{letter, given, after, line_written, written};
+ghost use Rattle.calls.specs.Lines.{letter, given, after, line_written, written, no_bytes};
 
 pub mod given;
 pub mod show;
@@ -19,10 +19,21 @@ use std::io::{self, Read, Write};
 // The most bytes of an input that are its list: what comes after them is not read.
 pub const LONGEST: usize = 65536;
 
+// For the bytes of a list: more of one are not read.
+pub fn room() -> [u8; LONGEST]
+    ensures length { 65536 ≡ length result }
+    ensures bytes { result ≡ no_bytes }
+{
+    [0; LONGEST]
+}
+
 // Reads the list of calls into lent bytes, as much of the input as they hold, and answers the part of
 // them that it filled.
 pub fn read<'a, R: Read>(input: &mut R, room: &'a mut [u8]) -> io::Result<&'a [u8]>
-    ensures { IfOk result (λ list. IfSome (R.remaining input.old) (λ bytes. list.now ≡ take (length room.old) bytes)) }
+    ensures bytes { IfOk result (λ list. IfSome (R.remaining input.old) (λ bytes. list.now ≡ take (length room.old) bytes)) }
+    ensures bound { IfOk result (λ list. length list.now ≤ length room.old) }
+    ensures place { IfOk result (λ list. list.ref_ptr ≡ room.entry.ref_ptr) }
+    ensures left { IfOk result (λ list. Consumes (R.remaining input.old) (R.remaining input.new) list.now) }
 {
     // Not by `read_to_end`, which needs the heap: examples and drawing allocate nothing (docs/DECISIONS.md 73).
     let mut got = 0;

@@ -2,7 +2,8 @@
 ghost use Rattle.std.specs.Prelude.{◌≡◌, ◌==◌, drop, position};
 ghost use Rattle.calls.specs.Lines.{before, after};
 
-// The place of the first byte of a kind.
+// The place of the first byte of a kind. In a loop of its own nothing is carried along but the place.
+#[inline(never)]
 fn place(text: &[u8], stop: u8) -> Option<usize>
     ensures { result ≡ position (λ b. b == stop) text.now }
 {

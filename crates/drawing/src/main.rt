@@ -15,7 +15,7 @@ use calls::given::Notation;
 use std::io;
 
 fn main(rt: HostRuntime) -> io::Result<()> {
-    let mut room = [0; calls::LONGEST];
+    let mut room = calls::room();
     let list = calls::read(&mut rt.reader(), &mut room)?;
     calls::run(&mut io::writer(&rt), list, Notation::Hexadecimal, &Drawing)
 }

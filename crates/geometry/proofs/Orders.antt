@@ -1,8 +1,12 @@
 -- Orders of refusals, asked part by part: a part that refuses decides, one that passes leaves it to the next, and a part may be asked again.
 use mathlib.Core.List.{List, ◌++◌}
-use mathlib.Core.Path.{◌≡◌, refl, sym, ◌∙◌}
+use mathlib.Core.Path.{◌≡◌, refl, sym, ◌∙◌, ap}
 use Prim.Native.Nat.{ℕ}
+use Rattle.std.specs.declared.result.Result.{Result}
+use Rattle.std.specs.declared.result.Result.TheVariants.{Ok, Err}
+use Rattle.geometry.specs.declared.refusal.Refusal.{Refusal}
 use Rattle.geometry.specs.Refusal.{Answer, accepted, refused, Check, answer, checked, follow}
+use Rattle.geometry.specs.Answers.{meaning, first_refused}
 use Rattle.geometry.proofs.Refusals.{in_turn}
 
 module _ {A : Type 0} (cs ds : List Check) (a : A) where
@@ -11,6 +15,11 @@ module _ {A : Type 0} (cs ds : List Check) (a : A) where
 
   pub part_passes : {x : Answer A} → checked cs ≡ accepted tt → x ≡ answer ds a → x ≡ answer (cs ++ ds) a
   part_passes e h = h ∙ rw e at (sym (in_turn cs ds a))
+
+-- The first of two checks that refuses means a refusal that stands, and where there is none what the second says.
+pub first_follows : (x y : Result (Unit {0}) Refusal) {z : Result (Unit {0}) Refusal} → z ≡ first_refused x y → meaning z ≡ follow (meaning x) (meaning y)
+first_follows (Ok u) y e = ap meaning e
+first_follows (Err r) y e = ap meaning e
 
 -- Two parts that are joined by the first that refuses are the whole order.
 pub asked_in_turn : (cs ds : List Check) {x y z : Answer (Unit {0})} → x ≡ checked cs → y ≡ checked ds → z ≡ follow x y → z ≡ checked (cs ++ ds)

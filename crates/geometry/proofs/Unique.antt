@@ -1,6 +1,9 @@
 -- Every public function's contract leaves one outcome: any two that it allows are equal. Each theorem is about the contract itself, as the function's
 -- generated `Reads` has it (`Post`), and not about a copy of it. No function here is lent anything, so its outcome is its result.
 use mathlib.Core.Path.{sym, ◌∙◌}
+use denote.RattleType.{RattleType}
+use denote.Param.Laws.{Laws}
+use mir.Syntax.{Dict}
 use Rattle.geometry.proofs.One.{One, meaning_one}
 use Rattle.geometry.proofs.axis.Axis.coordinate.Reads as Axis-coordinate
 use Rattle.geometry.proofs.axis.Axis.get_unit_vector.Reads as Axis-get-unit-vector
@@ -91,8 +94,8 @@ Reason-at-unique κs a r r' s s' p q = p ∙ sym q
 pub Reason-number-unique : One Reason-number.Post
 Reason-number-unique κs a r r' s s' p q = p ∙ sym q
 
-pub first_refusal_unique : One first-refusal.Post
-first_refusal_unique κs a r r' s s' p q = meaning_one r r' (p ∙ sym q)
+pub first_refusal_unique : (E : RattleType) (laws : Laws E) (dict : Dict) → One (first-refusal.Post E laws dict)
+first_refusal_unique E laws dict κs a r r' s s' p q = p ∙ sym q
 
 pub OrientedBlockFace-check-sign-unique : One OrientedBlockFace-check-sign.Post
 OrientedBlockFace-check-sign-unique κs a r r' s s' p q = meaning_one r r' (p ∙ sym q)

@@ -32,3 +32,8 @@ number Counts = 24
 abbrev pub meaning : {A : Type 0} → Result A Refusal → Answer A
 meaning (Ok a) = accepted a
 meaning (Err r) = refused (number r.reason) r.place
+
+-- The first of two checks that refuses, whatever a refusal is. Of these refusals that means what `follow` says (`first_follows`, proofs/Orders.antt).
+abbrev pub first_refused : {A E : Type 0} → Result A E → Result A E → Result A E
+first_refused (Ok a) second = second
+first_refused (Err e) second = Err e

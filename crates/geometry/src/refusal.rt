@@ -2,8 +2,7 @@
 //
 // A call asks its checks in an order, and the first that refuses decides: `?` hands a refusal on.
 ghost use Rattle.std.specs.Prelude.{◌≡◌};
-ghost use Rattle.geometry.specs.Refusal.{follow};
-ghost use Rattle.geometry.specs.Answers.{number, meaning};
+ghost use Rattle.geometry.specs.Answers.{number, first_refused};
 
 // Why a call refuses. The numbers are document 01's; 15, 16 and 24 are document 02's, and 17 is ours
 // (docs/DECISIONS.md).
@@ -78,9 +77,9 @@ impl Reason {
     }
 }
 
-// The first of two checks that refuses.
-pub fn first_refusal(first: Result<(), Refusal>, second: Result<(), Refusal>) -> Result<(), Refusal>
-    ensures { meaning result ≡ follow (meaning first) (meaning second) }
+// The first of two checks that refuses, whatever a refusal is.
+pub fn first_refusal<E: Drop>(first: Result<(), E>, second: Result<(), E>) -> Result<(), E>
+    ensures { result ≡ first_refused first second }
 {
     first.and(second)
 }

@@ -16,6 +16,14 @@ use Rattle.greedy.specs.declared.face_scan.FaceScan.{FaceScan}
 pub underway_past : {d i n k j : ℕ} → Underway d i n k j → (m : ℕ) → m ≤ n - k → Underway d i n (k + m) (j + m * d)
 underway_past {d = d} {k = k} l m h = record { within = omega (arith, l.within); place = omega (arith, l.place, add-mul k m d) }
 
+-- A turn leaves fewer, since it passes those voxels and one more.
+pub fewer : (k m n : ℕ) → k + m < n → n - (k + m + 1) < n - k
+fewer k m n h = omega arith
+
+-- What is passed ends before the rest of the row does.
+pub ahead : (k m n : ℕ) → k + m < n → m < n - k
+ahead k m n h = omega arith
+
 -- What is left of a row to scan can be tested, voxel by voxel.
 pub rest_ready : {c : FaceScan} {spot : ℕ → Point} {vn mn d a i n : ℕ} (k : ℕ) → Stepping (λ (x i : ℕ). SpotReady vn mn c (spot x) i) d a i n → k < n → WalkReady vn mn c.strides.visibility_offset.0 (i + k * d) d (n - k)
 rest_ready {c = c} {d = d} {i = i} {n = n} k row h =
@@ -26,9 +34,9 @@ rest_ready {c = c} {d = d} {i = i} {n = n} k row h =
 
 -- After those that were passed there stands one that needs a mesh, unless the row ends there.
 pub idle_ends : {vs marks : List ℕ} (i k : ℕ) {off d n m : ℕ} → Idle vs marks off (i + k * d) d (n - k) m → k + m < n → needs_at vs marks off (i + (k + m) * d) ≡ true
-idle_ends i k {d = d} {m = m} idle h =
+idle_ends i k {d = d} {n = n} {m = m} idle h =
     let place : i + k * d + m * d ≡ i + (k + m) * d = omega (arith, add-mul k m d) in
-    rw place at (idle.stopped (omega arith))
+    rw place at (idle.stopped (ahead k m n h))
 
 module _ (vs : List ℕ) (c : FaceScan) (spot : ℕ → Point) where
   abbrev scans : Scanned → ℕ → ℕ → Scanned

@@ -1,9 +1,10 @@
 // Reading a block of voxels from standard input.
-ghost use Rattle.std.specs.Prelude.{◌≤◌, IfOk};
+ghost use Rattle.std.specs.Prelude.{◌≤◌, length, IfOk};
 
 use crate::say::{Failure, Wrong};
+use crate::space;
 use geometry::vector::UVec3;
-use std::io::Read;
+use std::io::{self, Read};
 use voxels::bounds;
 
 // The most voxels that this command takes.
@@ -21,22 +22,46 @@ fn size(shape: UVec3) -> Result<usize, Wrong>
     Ok(size as usize)
 }
 
+// Reads until the bytes are full or the input ends, and answers how many it put at their start.
+fn read_full<R: Read>(input: &mut R, bytes: &mut [u8]) -> io::Result<usize>
+    ensures { IfOk result (λ n. n ≤ length bytes.new) }
+{
+    // Not by `read_to_end`, which needs the heap: mesh allocates nothing (docs/DECISIONS.md 47).
+    let mut got = 0;
+    while got < bytes.len() {
+        let n = input.read(&mut bytes[got..])?;
+        if n == 0 {
+            break;
+        }
+        got += n;
+    }
+    Ok(got)
+}
+
+// Takes voxels from bytes, as many as there are in both.
+fn decode(bytes: &[u8], voxels: &mut [u16]) {
+    let (pairs, _) = bytes.as_chunks::<2>();
+    for (voxel, pair) in voxels.iter_mut().zip(pairs) {
+        *voxel = u16::from_le_bytes(*pair);
+    }
+}
+
 // Reads the voxels of a block of such a shape, two bytes each, and nothing more is there to read.
-pub fn read<R: Input + AllocGlobal>(rt: &R, shape: UVec3) -> Result<Vec<u16>, Failure> {
-    let wanted = size(shape)? * 2;
-    let mut bytes = Vec::with_capacity(rt.alloc(), wanted + 1)?;
-    let got = rt.reader().take(wanted as u64 + 1).read_to_end(&mut bytes)?;
+// Answers the part of the room that they fill.
+pub fn read<'a, R: Input>(rt: &R, shape: UVec3, room: &'a mut [u16]) -> Result<&'a [u16], Failure>
+    requires { 262144 ≤ length room.old }
+    ensures { IfOk result (λ voxels. length voxels.now ≤ 262144) }
+{
+    let size = size(shape)?;
+    let wanted = size * 2;
+    let mut bytes = space::bytes();
+    let got = read_full(&mut rt.reader(), &mut bytes[..wanted + 1])?;
     if got < wanted {
         return Err(Wrong::Short { wanted, got }.into());
     }
     if got > wanted {
         return Err(Wrong::Long(wanted).into());
     }
-    let (voxels, _) = bytes.as_chunks::<2>();
-    Ok(
-        voxels
-            .iter()
-            .map(|voxel| u16::from_le_bytes(*voxel))
-            .collect(rt.alloc())?,
-    )
+    decode(&bytes, &mut room[..size]);
+    Ok(&room[..size])
 }

@@ -10,27 +10,25 @@
 // corners included. What is wrong is said on standard error, and then nothing is printed.
 #![tactic(auto)]
 
+ghost use Rattle.std.specs.Prelude.{◌≤◌, length};
+
 mod block;
 mod say;
 mod show;
+mod space;
 mod words;
 
 use geometry::face::OrientedBlockFace;
-use greedy::QUAD_NUMBERS;
+use geometry::refusal::Refusal;
+use greedy::{GreedyMesh, QUAD_NUMBERS};
 use say::{Failure, Wrong};
 use show::FACES;
 use std::io;
 use std::rt::Env;
 use words::{Form, Job};
 
-// The most quads that this command lists.
-const MOST_QUADS: usize = 131072;
-
 // How many numbers a unit quad has.
 const UNIT_NUMBERS: usize = 3;
-
-// The most bytes of OBJ text that this command writes.
-const MOST_TEXT: usize = 3000000;
 
 // The six faces of a cube.
 fn cube() -> [OrientedBlockFace; 6] {
@@ -38,8 +36,8 @@ fn cube() -> [OrientedBlockFace; 6] {
 }
 
 // Meshes unit quads, and prints them.
-fn mesh_unit<R: Print + AllocGlobal>(rt: &R, job: Job, voxels: &[u16]) -> Result<(), Failure> {
-    let mut quads = vec![in rt.alloc(); 0u32; MOST_QUADS * UNIT_NUMBERS]?;
+fn mesh_unit<R: Print>(rt: &R, job: Job, voxels: &[u16]) -> Result<(), Failure> {
+    let mut quads = space::unit_quads();
     let counts = simple::visible_block_faces(
         voxels,
         job.shape,
@@ -52,19 +50,28 @@ fn mesh_unit<R: Print + AllocGlobal>(rt: &R, job: Job, voxels: &[u16]) -> Result
     Ok(())
 }
 
-// Meshes greedy quads, and prints them as lines or as OBJ text.
-fn mesh_greedy<R: Print + AllocGlobal>(rt: &R, job: Job, voxels: &[u16]) -> Result<(), Failure> {
-    let mut quads = vec![in rt.alloc(); 0u32; MOST_QUADS * QUAD_NUMBERS]?;
-    let mut visited = vec![in rt.alloc(); 0u8; voxels.len()]?;
-    let mesh = greedy::greedy_quads(
+// Greedy meshing. The marks are needed no longer than this.
+fn greedy_quads(job: Job, voxels: &[u16], quads: &mut [u32]) -> Result<GreedyMesh, Refusal>
+    requires { length voxels.now ≤ 262144 }
+{
+    let mut visited = space::visited();
+    greedy::greedy_quads(
         voxels,
         job.shape,
         job.min,
         job.max,
         cube(),
-        &mut visited,
-        &mut quads,
-    )?;
+        &mut visited[..voxels.len()],
+        quads,
+    )
+}
+
+// Meshes greedy quads, and prints them as lines or as OBJ text.
+fn mesh_greedy<R: Print>(rt: &R, job: Job, voxels: &[u16]) -> Result<(), Failure>
+    requires { length voxels.now ≤ 262144 }
+{
+    let mut quads = space::greedy_quads();
+    let mesh = greedy_quads(job, voxels, &mut quads)?;
     if let Form::Obj = job.form {
         return write_obj(rt, mesh.counts, &quads);
     }
@@ -74,24 +81,22 @@ fn mesh_greedy<R: Print + AllocGlobal>(rt: &R, job: Job, voxels: &[u16]) -> Resu
 }
 
 // Prints greedy quads as OBJ text.
-fn write_obj<R: Print + AllocGlobal>(
-    rt: &R,
-    counts: [u64; 6],
-    quads: &[u32],
-) -> Result<(), Failure> {
-    let mut text = vec![in rt.alloc(); 0u8; MOST_TEXT]?;
+fn write_obj<R: Print>(rt: &R, counts: [u64; 6], quads: &[u32]) -> Result<(), Failure> {
+    let mut text = space::text();
     let written = obj::write_obj(cube(), counts, quads, &mut text)?;
-    text.truncate(written);
-    rt.write_all(&text).map_err(|_| Wrong::Unwritten)?;
+    let written = written.min(text.len());
+    rt.write_all(&text[..written])
+        .map_err(|_| Wrong::Unwritten)?;
     Ok(())
 }
 
-fn run<R: Env + Input + Print + AllocGlobal>(rt: &R) -> Result<(), Failure> {
+fn run<R: Env + Input + Print>(rt: &R) -> Result<(), Failure> {
     let job = words::read(rt)?;
-    let voxels = block::read(rt, job.shape)?;
+    let mut room = space::voxels();
+    let voxels = block::read(rt, job.shape, &mut room)?;
     match job.form {
-        Form::Unit => mesh_unit(rt, job, &voxels),
-        Form::Greedy | Form::Obj => mesh_greedy(rt, job, &voxels),
+        Form::Unit => mesh_unit(rt, job, voxels),
+        Form::Greedy | Form::Obj => mesh_greedy(rt, job, voxels),
     }
 }
 

@@ -1,6 +1,7 @@
 // What is said on standard error: what was wrong, and where.
+use crate::words::LONGEST;
+use arrayvec::ArrayVec;
 use geometry::refusal::{Reason, Refusal};
-use std::alloc::AllocError;
 use std::{fmt, io};
 use thiserror::Error;
 
@@ -12,7 +13,9 @@ const LIMITS: &str = "mesh takes at most 262144 voxels and lists at most 131072 
 #[derive(Drop)]
 pub enum Failure {
     // A word of the command line, by its position, and what is wrong with it. It need not be text.
-    Word(usize, Vec<u8>, WordError),
+    Word(usize, ArrayVec<u8, LONGEST>, WordError),
+    // A word that is longer than any of this command, by its position.
+    LongWord(usize),
     Wrong(Wrong),
     Io(io::Error),
 }
@@ -23,8 +26,11 @@ impl Failure {
         match self {
             Failure::Word(position, word, wrong) => {
                 print!(err; "mesh: word {position}, '")?;
-                err.write_all(&word)?;
+                err.write_all(word.as_slice())?;
                 println!(err; "', {wrong}")
+            }
+            Failure::LongWord(position) => {
+                println!(err; "mesh: word {position}, '..', is too long for any word of mesh")
             }
             Failure::Wrong(wrong) => println!(err; "mesh: {wrong}"),
             Failure::Io(error) => Err(error),
@@ -51,12 +57,6 @@ impl From<io::Error> for Failure {
     }
 }
 
-impl From<AllocError> for Failure {
-    fn from(error: AllocError) -> Failure {
-        Failure::Io(io::Error::from(error))
-    }
-}
-
 // What is wrong with a word.
 #[derive(Debug, Drop, Error)]
 pub enum WordError {
@@ -66,8 +66,6 @@ pub enum WordError {
     Again,
     #[error("is one number too many: the shape is three, X Y Z")]
     OneTooMany,
-    #[error("is too long for any word of mesh")]
-    TooLong,
 }
 
 // What else is wrong.

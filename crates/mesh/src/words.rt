@@ -8,7 +8,7 @@ use std::str;
 
 // No word of this command is longer. They are read as bytes, since `env::args` gives no word that is not
 // text.
-const LONGEST: usize = 64;
+pub const LONGEST: usize = 64;
 
 // What is asked for.
 #[derive(Clone, Copy)]
@@ -142,21 +142,19 @@ fn number(word: &[u8]) -> Option<u32> {
 }
 
 // What the words of the command line ask for.
-pub fn read<R: Env + AllocGlobal>(rt: &R) -> Result<Job, Failure> {
+pub fn read<R: Env>(rt: &R) -> Result<Job, Failure> {
     let mut words = Words::new();
     for position in 1..usize::MAX {
         let mut buffer = [0u8; LONGEST];
         match rt.arg(position, &mut buffer) {
             Ok(length) => {
-                let word = &buffer[..length];
-                if let Err(wrong) = words.take(word) {
-                    return Err(Failure::Word(position, word.to_vec(rt.alloc())?, wrong));
+                if let Err(wrong) = words.take(&buffer[..length]) {
+                    let mut word = ArrayVec::from(buffer);
+                    word.truncate(length);
+                    return Err(Failure::Word(position, word, wrong));
                 }
             }
-            Err(FillError::TooLong) => {
-                let word = b"..".to_vec(rt.alloc())?;
-                return Err(Failure::Word(position, word, WordError::TooLong));
-            }
+            Err(FillError::TooLong) => return Err(Failure::LongWord(position)),
             Err(FillError::NotPresent) => break,
         }
     }

@@ -1,5 +1,4 @@
 // What can be wrong with a list or with a record of one.
-use std::alloc::{AllocError, AllocFailed};
 use std::io;
 
 // What is wrong with a record. Its text goes on from the record's number.
@@ -46,7 +45,7 @@ pub enum ListFault {
 pub enum Error {
     // It is malformed.
     Malformed(Fault),
-    // Printing failed, or memory ran out.
+    // Printing failed.
     Io(io::Error),
 }
 
@@ -59,17 +58,5 @@ impl From<Fault> for Error {
 impl From<io::Error> for Error {
     fn from(error: io::Error) -> Error {
         Error::Io(error)
-    }
-}
-
-impl From<AllocError> for Error {
-    fn from(error: AllocError) -> Error {
-        Error::Io(io::Error::from(error))
-    }
-}
-
-impl<T: Drop> From<AllocFailed<T>> for Error {
-    fn from(error: AllocFailed<T>) -> Error {
-        Error::Io(io::Error::from(error))
     }
 }

@@ -15,13 +15,16 @@ mod fault;
 mod kind;
 mod mesh;
 mod record;
+mod space;
 mod tally;
 mod text;
 
+ghost use Rattle.std.specs.Prelude.{◌≤◌, length, IfOk};
+
 use fault::{Error, ListFault};
 use kind::Kind;
+use mesh::Buffers;
 use record::Record;
-use std::alloc::Global;
 use std::io::{self, Read};
 use tally::Tally;
 
@@ -31,14 +34,14 @@ const MOST: usize = 262143;
 // Replays the record of a line.
 fn replay_record<R: Print>(
     tally: &mut Tally<'_, R>,
-    alloc: Global,
+    numbers: &mut [u32],
+    buffers: &mut Buffers<'_>,
     line: &[u8],
 ) -> Result<(), Error> {
-    let numbers = text::numbers(alloc, line)?;
-    let record = Record::new(&numbers)?;
+    let record = Record::new(text::read_numbers(line, numbers)?)?;
     match record.kind {
-        Kind::GreedyQuads => mesh::greedy_quads(tally, alloc, record),
-        Kind::VisibleBlockFaces => mesh::visible_block_faces(tally, alloc, record),
+        Kind::GreedyQuads => mesh::greedy_quads(tally, buffers, record),
+        Kind::VisibleBlockFaces => mesh::visible_block_faces(tally, buffers, record),
         Kind::QuadMeshPosition => draw::position(tally, record),
         Kind::QuadCorners => draw::corners(tally, record),
         Kind::QuadMeshNormals => draw::normal(tally, record),
@@ -53,7 +56,8 @@ fn replay_record<R: Print>(
 // Replays a list, and answers what is wrong with it as a whole.
 fn replay_list<R: Print>(
     tally: &mut Tally<'_, R>,
-    alloc: Global,
+    numbers: &mut [u32],
+    buffers: &mut Buffers<'_>,
     list: &[u8],
 ) -> io::Result<Option<ListFault>> {
     if list.len() > MOST {
@@ -68,7 +72,7 @@ fn replay_list<R: Print>(
             ended = true;
         } else if !text::is_comment(line) {
             tally.next_record();
-            match replay_record(tally, alloc, line) {
+            match replay_record(tally, numbers, buffers, line) {
                 Ok(()) => {}
                 Err(Error::Malformed(fault)) => tally.malformed(fault)?,
                 Err(Error::Io(error)) => return Err(error),
@@ -78,12 +82,47 @@ fn replay_list<R: Print>(
     Ok(if ended { None } else { Some(ListFault::NoEnd) })
 }
 
+// Reads until the text is full or the input ends, and answers how many bytes it put at its start.
+fn read_full(input: &mut impl Read, text: &mut [u8]) -> io::Result<usize>
+    ensures { IfOk result (λ n. n ≤ length text.new) }
+{
+    let mut done: usize = 0;
+    while done < text.len() {
+        let n = input.read(&mut text[done..])?;
+        if n == 0 {
+            return Ok(done);
+        }
+        done += n;
+    }
+    Ok(done)
+}
+
+// Reads a list from standard input, replays it, and answers what is wrong with it as a whole.
+fn replay<R: Input + Print>(
+    rt: &R,
+    tally: &mut Tally<'_, R>,
+    text: &mut [u8],
+    numbers: &mut [u32],
+    buffers: &mut Buffers<'_>,
+) -> io::Result<Option<ListFault>> {
+    let got = read_full(&mut rt.reader(), text)?;
+    replay_list(tally, numbers, buffers, &text[..got])
+}
+
 fn main(rt: HostRuntime) -> io::Result<()> {
-    let alloc = rt.alloc();
-    let mut list = Vec::new(alloc);
-    rt.reader().take(MOST as u64 + 1).read_to_end(&mut list)?;
+    let mut text = space::text();
+    let mut numbers = space::numbers();
+    let mut voxels = space::voxels();
+    let mut visited = space::visited();
+    let mut out = space::output();
+    let mut buffers = Buffers {
+        voxels: &mut voxels,
+        visited: &mut visited,
+        out: &mut out,
+    };
     let mut tally = Tally::new(&rt);
-    if let Some(fault) = replay_list(&mut tally, alloc, &list)? {
+    let wrong = replay(&rt, &mut tally, &mut text, &mut numbers, &mut buffers)?;
+    if let Some(fault) = wrong {
         tally.wrong_list(fault)?;
     }
     tally.end()

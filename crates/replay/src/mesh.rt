@@ -2,103 +2,87 @@
 // voxels, the number of runs, and two numbers for each run; the number of visited bytes and the length of
 // the output; nine numbers of the answer, how many numbers are written, and these; and how many visited
 // bytes are 0.
-ghost use Rattle.std.specs.Prelude.{◌≡◌, IfOk, vec_len};
-
 use crate::fault::{Error, Fault};
 use crate::kind::Kind;
 use crate::record::{BEFORE, BEFORE_BYTE, Record, Source};
 use crate::tally::Tally;
 use spunmarrow::mesh;
-use std::alloc::{AllocError, Global};
 
-// The most voxels, visited bytes and numbers of output that a call of a list has.
-const MOST: usize = 4096;
-
-// What a mesher writes.
+// The buffers of which a call is lent the first elements, as many as its record says. They hold the most
+// that a call of a list has.
 #[derive(Drop)]
-struct Buffers {
-    answer: [u64; 9],
-    out: Vec<u32>,
-    visited: Vec<u8>,
+pub struct Buffers<'b> {
+    pub voxels: &'b mut [u16],
+    pub visited: &'b mut [u8],
+    pub out: &'b mut [u32],
 }
 
-// A call as its record has it.
-#[derive(Drop)]
-struct Call {
+// What a mesher writes, as a record has it: the answer, the first numbers of the output, and how many
+// visited bytes are 0. The others are as they were before the call.
+#[derive(Clone, Copy)]
+struct Expected<'a> {
+    answer: [u64; 9],
+    written: &'a [u32],
+    cleared: usize,
+}
+
+// A call as its record has it: how many elements of each buffer it is lent, and the runs of its voxels.
+#[derive(Clone, Copy)]
+struct Call<'a> {
     kind: Kind,
     source: Source,
     shape: [u32; 3],
     min: [u32; 3],
     max: [u32; 3],
     faces: [i32; 12],
-    voxels: Vec<u16>,
-    expected: Buffers,
+    voxels: usize,
+    visited: usize,
+    out: usize,
+    runs: &'a [[u32; 2]],
+    expected: Expected<'a>,
 }
 
-// So many elements: those that are written, and then as before the call.
-fn padded<T: Clone + Drop>(
-    alloc: Global,
-    written: &[T],
-    length: usize,
-    before: T,
-) -> Result<Vec<T>, AllocError>
-    ensures { IfOk result (λ v. vec_len v ≡ length) }
-{
-    let mut all = written.to_vec(alloc)?;
-    all.resize(length, before)?;
-    Ok(all)
+// An answer that no call writes: it differs from every list's.
+const NO_ANSWER: [u64; 9] = [u64::MAX; 9];
+
+// The first elements of a buffer, so many.
+fn first<T>(buffer: &mut [T], length: usize) -> Result<&mut [T], Fault> {
+    buffer.get_mut(..length).ok_or(Fault::Large)
 }
 
-// The voxels of runs, of which there are so many.
-fn voxels_of(alloc: Global, runs: &[[u32; 2]], count: usize) -> Result<Vec<u16>, Error>
-    ensures { IfOk result (λ v. vec_len v ≡ count) }
-{
-    let mut voxels = Vec::new(alloc);
+// Puts the voxels of runs, which are as many as there is room for.
+fn put_runs(runs: &[[u32; 2]], voxels: &mut [u16]) -> Result<(), Fault> {
+    let mut at: usize = 0;
     for [length, voxel] in runs {
         let voxel = u16::try_from(*voxel).map_err(|_| Fault::Runs)?;
-        let end = voxels.len().saturating_add(*length as usize);
-        if end > count {
-            return Err(Error::from(Fault::Runs));
-        }
-        voxels.resize(end, voxel)?;
+        let end = at.saturating_add(*length as usize);
+        voxels.get_mut(at..end).ok_or(Fault::Runs)?.fill(voxel);
+        at = end;
     }
-    if voxels.len() == count {
-        Ok(voxels)
+    if at == voxels.len() {
+        Ok(())
     } else {
-        Err(Error::from(Fault::Runs))
+        Err(Fault::Runs)
     }
 }
 
-impl Call {
-    fn read(alloc: Global, mut record: Record<'_>) -> Result<Call, Error> {
+impl<'a> Call<'a> {
+    fn read(mut record: Record<'a>) -> Result<Self, Fault> {
         let kind = record.kind;
         let shape = record.take()?;
         let min = record.take()?;
         let max = record.take()?;
         let faces = record.take()?.map(u32::cast_signed);
-        let voxel_count = record.length()?;
+        let voxels = record.length()?;
         let run_count = record.length()?;
         let (runs, _) = record.slice(2 * run_count)?.as_chunks();
-        let visited_length = record.length()?;
-        let out_length = record.length()?;
+        let visited = record.length()?;
+        let out = record.length()?;
         let answer: [u32; 9] = record.take()?;
         let written_count = record.length()?;
         let written = record.slice(written_count)?;
         let cleared = record.length()?;
         let source = record.end(answer[0])?;
-        if voxel_count.max(visited_length).max(out_length) > MOST {
-            return Err(Error::from(Fault::Large));
-        }
-        if written_count > out_length || cleared > visited_length {
-            return Err(Error::from(Fault::Small));
-        }
-        let voxels = voxels_of(alloc, runs, voxel_count)?;
-        let zeros = vec![in alloc; 0; cleared]?;
-        let expected = Buffers {
-            answer: answer.map(u64::from),
-            out: padded(alloc, written, out_length, BEFORE)?,
-            visited: padded(alloc, &zeros, visited_length, BEFORE_BYTE)?,
-        };
         Ok(Call {
             kind,
             source,
@@ -107,74 +91,128 @@ impl Call {
             max,
             faces,
             voxels,
-            expected,
+            visited,
+            out,
+            runs,
+            expected: Expected {
+                answer: answer.map(u64::from),
+                written,
+                cleared,
+            },
         })
     }
 
-    // The buffers before the call. An answer that no call writes differs from every list's.
-    fn before(&self, alloc: Global) -> Result<Buffers, AllocError>
-        ensures out { IfOk result (λ b. vec_len b.out ≡ vec_len self.now.expected.out) }
-        ensures visited { IfOk result (λ b. vec_len b.visited ≡ vec_len self.now.expected.visited) }
-    {
-        Ok(Buffers {
-            answer: [u64::MAX; 9],
-            out: vec![in alloc; BEFORE; self.expected.out.len()]?,
-            visited: vec![in alloc; BEFORE_BYTE; self.expected.visited.len()]?,
-        })
+    // Fills what is lent to the call as it is before it.
+    fn fill(&self, voxels: &mut [u16], visited: &mut [u8], out: &mut [u32]) -> Result<(), Fault> {
+        if self.expected.written.len() > out.len() || self.expected.cleared > visited.len() {
+            return Err(Fault::Small);
+        }
+        put_runs(self.runs, voxels)?;
+        visited.fill(BEFORE_BYTE);
+        out.fill(BEFORE);
+        Ok(())
     }
 
     // Counts the call, and compares what it left.
-    fn compare<R: Print>(&self, tally: &mut Tally<'_, R>, left: &Buffers) -> Result<(), Error> {
+    fn compare<R: Print>(
+        &self,
+        tally: &mut Tally<'_, R>,
+        answer: &[u64; 9],
+        visited: &[u8],
+        out: &[u32],
+    ) -> Result<(), Error> {
         let kind = self.kind;
-        let expected = &self.expected;
+        let Expected {
+            answer: expected,
+            written,
+            cleared,
+        } = self.expected;
         tally.replayed(kind, self.source);
         tally.compare(
             kind,
             "answer (refusal, place, counts, tests), number",
-            &expected.answer,
-            &left.answer,
+            &expected,
+            answer,
         )?;
-        tally.compare(kind, "output number", &expected.out, &left.out)?;
-        tally.compare(kind, "visited byte", &expected.visited, &left.visited)?;
+        tally.compare_all(
+            kind,
+            "output number",
+            |index| written.get(index).copied().unwrap_or(BEFORE),
+            out,
+        )?;
+        tally.compare_all(
+            kind,
+            "visited byte",
+            |index| if index < cleared { 0 } else { BEFORE_BYTE },
+            visited,
+        )?;
         Ok(())
+    }
+
+    fn greedy_quads<R: Print>(
+        &self,
+        tally: &mut Tally<'_, R>,
+        voxels: &mut [u16],
+        visited: &mut [u8],
+        out: &mut [u32],
+    ) -> Result<(), Error> {
+        let voxels = first(voxels, self.voxels)?;
+        let visited = first(visited, self.visited)?;
+        let out = first(out, self.out)?;
+        self.fill(voxels, visited, out)?;
+        let mut answer = NO_ANSWER;
+        mesh::spunmarrow_greedy_quads(
+            &self.shape,
+            &self.min,
+            &self.max,
+            &self.faces,
+            voxels,
+            visited,
+            out,
+            &mut answer,
+        );
+        self.compare(tally, &answer, visited, out)
+    }
+
+    fn visible_block_faces<R: Print>(
+        &self,
+        tally: &mut Tally<'_, R>,
+        voxels: &mut [u16],
+        visited: &mut [u8],
+        out: &mut [u32],
+    ) -> Result<(), Error> {
+        let voxels = first(voxels, self.voxels)?;
+        let visited = first(visited, self.visited)?;
+        let out = first(out, self.out)?;
+        self.fill(voxels, visited, out)?;
+        let mut answer = NO_ANSWER;
+        mesh::spunmarrow_visible_block_faces(
+            &self.shape,
+            &self.min,
+            &self.max,
+            &self.faces,
+            voxels,
+            out,
+            &mut answer,
+        );
+        self.compare(tally, &answer, visited, out)
     }
 }
 
 pub fn greedy_quads<R: Print>(
     tally: &mut Tally<'_, R>,
-    alloc: Global,
+    buffers: &mut Buffers<'_>,
     record: Record<'_>,
 ) -> Result<(), Error> {
-    let call = Call::read(alloc, record)?;
-    let mut left = call.before(alloc)?;
-    mesh::spunmarrow_greedy_quads(
-        &call.shape,
-        &call.min,
-        &call.max,
-        &call.faces,
-        &call.voxels,
-        &mut left.visited,
-        &mut left.out,
-        &mut left.answer,
-    );
-    call.compare(tally, &left)
+    let call = Call::read(record)?;
+    call.greedy_quads(tally, buffers.voxels, buffers.visited, buffers.out)
 }
 
 pub fn visible_block_faces<R: Print>(
     tally: &mut Tally<'_, R>,
-    alloc: Global,
+    buffers: &mut Buffers<'_>,
     record: Record<'_>,
 ) -> Result<(), Error> {
-    let call = Call::read(alloc, record)?;
-    let mut left = call.before(alloc)?;
-    mesh::spunmarrow_visible_block_faces(
-        &call.shape,
-        &call.min,
-        &call.max,
-        &call.faces,
-        &call.voxels,
-        &mut left.out,
-        &mut left.answer,
-    );
-    call.compare(tally, &left)
+    let call = Call::read(record)?;
+    call.visible_block_faces(tally, buffers.voxels, buffers.visited, buffers.out)
 }

@@ -29,7 +29,8 @@ impl fmt::Display for Counts {
     }
 }
 
-// Counts, and prints each difference as it comes.
+// Counts, and prints each difference as it comes. What prints is not inlined, so that no call which meshes
+// holds the room on the stack that printing takes.
 #[derive(Drop)]
 pub struct Tally<'r, R> {
     rt: &'r R,
@@ -56,12 +57,14 @@ impl<'r, R: Print> Tally<'r, R> {
     }
 
     // Says what is wrong with the record that was read last, which is a difference.
+    #[inline(never)]
     pub fn malformed(&mut self, fault: Fault) -> io::Result<()> {
         self.faults = self.faults.saturating_add(1);
         println!(self.rt; "record {} of the list {fault}", self.records)
     }
 
     // The same of the list.
+    #[inline(never)]
     pub fn wrong_list(&mut self, fault: ListFault) -> io::Result<()> {
         self.faults = self.faults.saturating_add(1);
         println!(self.rt; "{fault}")
@@ -78,6 +81,22 @@ impl<'r, R: Print> Tally<'r, R> {
         *answers = answers.saturating_add(1);
     }
 
+    // Says which number of a call differs, and counts it.
+    #[inline(never)]
+    fn differs<T: Copy + fmt::Display>(
+        &mut self,
+        kind: Kind,
+        what: &str,
+        index: usize,
+        expected: T,
+        came: T,
+    ) -> io::Result<()> {
+        let counts = &mut self.counts[kind as usize];
+        counts.differences = counts.differences.saturating_add(1);
+        let call = self.records;
+        println!(self.rt; "call {call}, {kind}: {what} {index}: expected {expected}, came {came}")
+    }
+
     // Compares numbers of a call, as many as are expected.
     pub fn compare<T: Copy + PartialEq + fmt::Display>(
         &mut self,
@@ -88,18 +107,33 @@ impl<'r, R: Print> Tally<'r, R> {
     ) -> io::Result<()> {
         for (index, (expected, came)) in expected.iter().zip(came).enumerate() {
             if expected != came {
-                let counts = &mut self.counts[kind as usize];
-                counts.differences = counts.differences.saturating_add(1);
-                let call = self.records;
-                println!(self.rt;
-                    "call {call}, {kind}: {what} {index}: expected {expected}, came {came}"
-                )?;
+                self.differs(kind, what, index, *expected, *came)?;
+            }
+        }
+        Ok(())
+    }
+
+    // Compares all numbers of a buffer, of which each index has the one that is expected.
+    pub fn compare_all<T: Copy + PartialEq + fmt::Display, F: Fn(usize) -> T>(
+        &mut self,
+        kind: Kind,
+        what: &str,
+        expected: F,
+        came: &[T],
+    ) -> io::Result<()>
+        requires { F.IsAlwaysCallable expected }
+    {
+        for (index, came) in came.iter().enumerate() {
+            let wanted = expected(index);
+            if wanted != *came {
+                self.differs(kind, what, index, wanted, *came)?;
             }
         }
         Ok(())
     }
 
     // Prints what was counted.
+    #[inline(never)]
     pub fn end(&self) -> io::Result<()> {
         for (kind, counts) in Kind::ALL.iter().zip(&self.counts) {
             println!(self.rt; "{kind}: {counts}")?;

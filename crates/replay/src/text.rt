@@ -1,17 +1,15 @@
 // The text of a list: a line is a record of numbers with a space between, or a comment.
-use crate::fault::{Error, Fault};
-use std::alloc::Global;
-use std::str;
-
-// The most numbers of a record, its length among them.
-const MOST: usize = 512;
+use crate::fault::Fault;
 
 // The number that some bytes spell: at most ten digits.
 fn number(digits: &[u8]) -> Option<u32> {
-    if digits.len() > 10 || !digits.iter().all(|byte| byte.is_ascii_digit()) {
+    if digits.is_empty() || digits.len() > 10 {
         return None;
     }
-    str::from_utf8(digits).ok()?.parse::<u32>().ok()
+    digits.iter().try_fold(0u32, |number, byte| {
+        let digit = char::from(*byte).to_digit(10)?;
+        number.checked_mul(10)?.checked_add(digit)
+    })
 }
 
 // Whether a line is the number 0 alone, which ends a list.
@@ -23,19 +21,20 @@ pub fn is_comment(line: &[u8]) -> bool {
     line.starts_with(b"#")
 }
 
-// The numbers of a line, which ends in its newline or with the list.
-pub fn numbers(alloc: Global, line: &[u8]) -> Result<Vec<u32>, Error> {
+// Reads the numbers of a line, which ends in its newline or with the list, into lent room, and answers the
+// part of it that they fill.
+pub fn read_numbers<'a>(line: &[u8], room: &'a mut [u32]) -> Result<&'a [u32], Fault> {
     let whole = line.strip_suffix(b"\n");
-    let mut numbers = Vec::new(alloc);
+    let mut count: usize = 0;
     for field in whole.unwrap_or(line).split(|byte| *byte == b' ') {
-        if numbers.len() == MOST {
-            return Err(Error::from(Fault::TooLong));
+        if count >= room.len() {
+            return Err(Fault::TooLong);
         }
-        let number = number(field).ok_or(Fault::NoNumber)?;
-        numbers.push(number)?;
+        room[count] = number(field).ok_or(Fault::NoNumber)?;
+        count += 1;
     }
     if whole.is_none() {
-        return Err(Error::from(Fault::Cut));
+        return Err(Fault::Cut);
     }
-    Ok(numbers)
+    Ok(&room[..count])
 }

@@ -1,38 +1,52 @@
 // Reading a saved mesh from standard input.
+ghost use Rattle.std.specs.Prelude.{◌≤◌, length, IfOk};
+
 use crate::refused::Refused;
 use crate::say::{Failure, Wrong};
+use crate::space;
 use geometry::face::OrientedBlockFace;
-use saved::{QUAD_NUMBERS, SavedMesh};
-use std::io::Read;
+use saved::SavedMesh;
+use std::io::{self, Read};
 
-// The most quads that this command holds.
-const MOST_QUADS: usize = 131072;
-
-// The most bytes that this command takes: those of a file of so many quads.
+// The most bytes that this command takes: those of a file of 131,072 quads.
 const MOST_BYTES: usize = 2621474;
 
 // What a file holds.
-#[derive(Drop)]
-pub struct File {
+#[derive(Clone, Copy)]
+pub struct File<'a> {
     pub bytes: usize,
     pub faces: [OrientedBlockFace; 6],
     pub counts: [u64; 6],
-    pub quads: Vec<u32>,
+    pub quads: &'a [u32],
 }
 
-// Reads a file.
-pub fn read<R: Input + AllocGlobal>(rt: &R) -> Result<File, Failure> {
-    let mut bytes = Vec::with_capacity(rt.alloc(), MOST_BYTES + 1)?;
-    let got = rt
-        .reader()
-        .take(MOST_BYTES as u64 + 1)
-        .read_to_end(&mut bytes)?;
+// Reads until the bytes are full or the input ends, and answers how many it put at their start.
+fn read_full(input: &mut impl Read, bytes: &mut [u8]) -> io::Result<usize>
+    ensures { IfOk result (λ n. n ≤ length bytes.new) }
+{
+    // Not by `read_to_end`, which needs the heap: saved_file allocates nothing (docs/DECISIONS.md 73).
+    let mut done: usize = 0;
+    while done < bytes.len() {
+        let n = input.read(&mut bytes[done..])?;
+        if n == 0 {
+            return Ok(done);
+        }
+        done += n;
+    }
+    Ok(done)
+}
+
+// Reads a file, its quads into what is lent for them.
+pub fn read<'a>(rt: &impl Input, quads: &'a mut [u32]) -> Result<File<'a>, Failure> {
+    let mut room = space::bytes();
+    let bytes: &mut [u8] = &mut room;
+    let got = read_full(&mut rt.reader(), bytes)?;
     if got > MOST_BYTES {
         return Err(Wrong::LongFile.into());
     }
-    let mut quads = vec![in rt.alloc(); 0u32; MOST_QUADS * QUAD_NUMBERS]?;
-    let SavedMesh { faces, counts } = saved::read_saved(&bytes, &mut quads).map_err(
-        |refusal| Wrong::File(Refused { refusal, bytes }),
+    let bytes = &bytes[..got];
+    let SavedMesh { faces, counts } = saved::read_saved(bytes, quads).map_err(
+        |refusal| Refused::new(refusal, bytes),
     )?;
     Ok(File {
         bytes: got,

@@ -15,6 +15,7 @@ mod info;
 mod load;
 mod refused;
 mod say;
+mod space;
 mod words;
 
 use load::File;
@@ -23,26 +24,32 @@ use std::io;
 use std::rt::Env;
 use words::Job;
 
-// The most bytes of OBJ text that this command writes.
-const MOST_TEXT: usize = 3000000;
-
-// Prints the quads of a file as OBJ text.
-fn write_obj<R: Print + AllocGlobal>(rt: &R, file: &File) -> Result<(), Failure> {
-    let mut text = vec![in rt.alloc(); 0u8; MOST_TEXT]?;
-    let written = obj::write_obj(file.faces, file.counts, &file.quads, &mut text)?;
-    text.truncate(written);
-    rt.write_all(&text).map_err(|_| Wrong::Unwritten)?;
+// Prints the quads of a file as OBJ text, of at most 3,000,000 bytes.
+fn write_obj(rt: &impl Print, file: &File) -> Result<(), Failure> {
+    let mut room = space::text();
+    let text: &mut [u8] = &mut room;
+    let written = obj::write_obj(file.faces, file.counts, file.quads, text)?;
+    rt.write_all(text.get(..written).unwrap_or(text))
+        .map_err(|_| Wrong::Unwritten)?;
     Ok(())
 }
 
-// Reads a file and does with it what is asked for.
-fn run<R: Env + Input + Print + AllocGlobal>(rt: &R) -> Result<(), Failure> {
-    let job = words::read(rt)?;
-    let file = load::read(rt)?;
+// Reads a file and does with it what is asked for. This is no part of `run`, so that a wrong word needs
+// no room for the buffers.
+#[inline(never)]
+fn run_job<R: Input + Print>(rt: &R, job: Job) -> Result<(), Failure> {
+    let mut room = space::quads();
+    let quads: &mut [u32] = &mut room;
+    let file = load::read(rt, quads)?;
     match job {
         Job::Info => Ok(info::print(rt, &file)?),
         Job::Obj => write_obj(rt, &file),
     }
+}
+
+fn run<R: Env + Input + Print>(rt: &R) -> Result<(), Failure> {
+    let job = words::read(rt)?;
+    run_job(rt, job)
 }
 
 fn main(rt: HostRuntime) -> io::Result<()> {

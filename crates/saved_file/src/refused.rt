@@ -1,67 +1,85 @@
 // What is said of a file that is refused: what is wrong with it, and at which byte, counted from 0.
+use arrayvec::ArrayVec;
 use geometry::refusal::{Reason, Refusal};
 use std::fmt;
 
+// The bytes of a quad.
+const QUAD_BYTES: usize = 20;
+
 #[derive(Debug, Drop)]
 pub struct Refused {
-    pub refusal: Refusal,
-    // The file.
-    pub bytes: Vec<u8>,
-}
-
-// The number that stands at a byte: four bytes, low byte first.
-fn number(bytes: &[u8], at: usize) -> Option<u32> {
-    let number = bytes.get(at..)?.first_chunk()?;
-    Some(u32::from_le_bytes(*number))
+    refusal: Refusal,
+    // How many bytes the file has, and at which of them it is refused.
+    length: usize,
+    at: usize,
+    // The bytes from there on, at most as many as a quad has.
+    found: ArrayVec<u8, QUAD_BYTES>,
 }
 
 impl Refused {
-    // A section whose count begins at a byte ends early.
-    fn early<W: fmt::Write>(
-        &self,
-        section: u64,
-        at: usize,
-        f: &mut fmt::Formatter<W>,
-    ) -> fmt::Result {
-        write!(f, "section {section} ends early, in its ")?;
-        match number(&self.bytes, at) {
+    // Of a file's bytes.
+    pub fn new(refusal: Refusal, bytes: &[u8]) -> Refused {
+        let Refusal { reason, place } = refusal;
+        let at = saved::refusal_byte(bytes, u32::from(reason), place) as usize;
+        let rest = bytes.get(at..).unwrap_or(&[]);
+        let found = rest.get(..QUAD_BYTES).unwrap_or(rest);
+        Refused {
+            refusal,
+            length: bytes.len(),
+            at,
+            found: ArrayVec::try_from(found).unwrap_or_default(),
+        }
+    }
+
+    // The number that stands where it is refused: four bytes, low byte first.
+    fn number(&self) -> Option<u32> {
+        let number = self.found.first_chunk()?;
+        Some(u32::from_le_bytes(*number))
+    }
+
+    // A section, whose count begins where it is refused, ends early.
+    fn early<W: fmt::Write>(&self, f: &mut fmt::Formatter<W>) -> fmt::Result {
+        let at = self.at;
+        write!(f, "section {} ends early, in its ", self.refusal.place)?;
+        match self.number() {
             Some(count) => write!(f, "records; its count begins at byte {at} and is {count}")?,
             None => write!(f, "count, which begins at byte {at}")?,
         }
-        write!(f, "; the file has {} bytes", self.bytes.len())
+        write!(f, "; the file has {} bytes", self.length)
     }
 
     // Section 0: it is empty, ends early or has another count.
     fn head<W: fmt::Write>(&self, f: &mut fmt::Formatter<W>) -> fmt::Result {
-        if self.bytes.is_empty() {
+        if self.length == 0 {
             return f.write_str("standard input is empty, and a saved mesh has at least 34 bytes");
         }
-        match number(&self.bytes, 0) {
+        match self.number() {
             Some(count) if count != 6 => write!(
                 f,
                 "section 0 has another count than 6; its count begins at byte 0 and is {count}"
             ),
-            _ => self.early(0, 0, f),
+            _ => self.early(f),
         }
     }
 
     // 16: a section that ends early, or bytes after the last.
-    fn file<W: fmt::Write>(&self, at: usize, f: &mut fmt::Formatter<W>) -> fmt::Result {
+    fn file<W: fmt::Write>(&self, f: &mut fmt::Formatter<W>) -> fmt::Result {
         match self.refusal.place {
             0 => self.head(f),
             7 => write!(
                 f,
-                "bytes follow section 6, from byte {at} on; the file has {} bytes",
-                self.bytes.len()
+                "bytes follow section 6, from byte {} on; the file has {} bytes",
+                self.at, self.length
             ),
-            section => self.early(section, at, f),
+            _ => self.early(f),
         }
     }
 
     // 17: a face byte, and where it stands.
-    fn face<W: fmt::Write>(&self, at: usize, f: &mut fmt::Formatter<W>) -> fmt::Result {
-        let face = self.refusal.place;
-        let byte = self.bytes.get(at).copied().unwrap_or(0);
+    fn face<W: fmt::Write>(&self, f: &mut fmt::Formatter<W>) -> fmt::Result {
+        let Refused { refusal, at, .. } = self;
+        let face = refusal.place;
+        let byte = self.found.first().copied().unwrap_or(0);
         write!(
             f,
             "face byte {face} is {byte:02x} in hex, at byte {at}; \
@@ -70,16 +88,16 @@ impl Refused {
     }
 
     // 12: a quad, from its first byte on.
-    fn quad<W: fmt::Write>(&self, at: usize, f: &mut fmt::Formatter<W>) -> fmt::Result {
+    fn quad<W: fmt::Write>(&self, f: &mut fmt::Formatter<W>) -> fmt::Result {
         write!(f, "quad {} is ", self.refusal.place)?;
-        let quad = self.bytes.get(at..).unwrap_or(&[]);
-        for number in quad.as_chunks::<4>().0.iter().take(saved::QUAD_NUMBERS) {
+        for number in self.found.as_chunks::<4>().0 {
             write!(f, "{} ", u32::from_le_bytes(*number))?;
         }
         write!(
             f,
-            "from byte {at} on; a quad's minimum is at most 255 on each axis, \
-             its width and height are at least 1, and neither ends past 256"
+            "from byte {} on; a quad's minimum is at most 255 on each axis, \
+             its width and height are at least 1, and neither ends past 256",
+            self.at
         )
     }
 }
@@ -87,13 +105,11 @@ impl Refused {
 impl fmt::Display for Refused {
     fn fmt<W: fmt::Write>(&self, f: &mut fmt::Formatter<W>) -> fmt::Result {
         let Refusal { reason, place } = self.refusal;
-        let number = u32::from(reason);
-        write!(f, "refused by {number} at {place}: ")?;
-        let at = saved::refusal_byte(&self.bytes, number, place) as usize;
+        write!(f, "refused by {} at {place}: ", u32::from(reason))?;
         match reason {
-            Reason::QuadLimits => self.quad(at, f),
-            Reason::File => self.file(at, f),
-            Reason::NoSuchNumber => self.face(at, f),
+            Reason::QuadLimits => self.quad(f),
+            Reason::File => self.file(f),
+            Reason::NoSuchNumber => self.face(f),
             _ => f.write_str("the file is refused"),
         }
     }

@@ -1,7 +1,8 @@
 // What is said on standard error: what was wrong, and where.
 use crate::refused::Refused;
+use crate::words::LONGEST;
+use arrayvec::ArrayVec;
 use geometry::refusal::{Reason, Refusal};
-use std::alloc::AllocError;
 use std::{fmt, io};
 use thiserror::Error;
 
@@ -14,12 +15,17 @@ const LIMITS: &str =
 #[derive(Drop)]
 pub enum Failure {
     // The word of the command line, and what is wrong with it. It need not be text.
-    Word(Vec<u8>, WordError),
+    Word(ArrayVec<u8, LONGEST>, WordError),
     Wrong(Wrong),
     Io(io::Error),
 }
 
 impl Failure {
+    // That something is wrong with a word, which has room here since none is longer than LONGEST.
+    pub fn word(word: &[u8], wrong: WordError) -> Failure {
+        Failure::Word(ArrayVec::try_from(word).unwrap_or_default(), wrong)
+    }
+
     // Says what was wrong. An error of reading or writing is handed on, for `main` to end with.
     pub fn say(self, err: &impl Print) -> io::Result<()> {
         match self {
@@ -40,6 +46,13 @@ impl From<Wrong> for Failure {
     }
 }
 
+// A refusal of the reader.
+impl From<Refused> for Failure {
+    fn from(refused: Refused) -> Failure {
+        Failure::Wrong(Wrong::File(refused))
+    }
+}
+
 // A refusal of the OBJ writer.
 impl From<Refusal> for Failure {
     fn from(refusal: Refusal) -> Failure {
@@ -50,12 +63,6 @@ impl From<Refusal> for Failure {
 impl From<io::Error> for Failure {
     fn from(error: io::Error) -> Failure {
         Failure::Io(error)
-    }
-}
-
-impl From<AllocError> for Failure {
-    fn from(error: AllocError) -> Failure {
-        Failure::Io(io::Error::from(error))
     }
 }
 

@@ -5,7 +5,7 @@ use std::rt::Env;
 
 // No word of this command is longer. They are read as bytes, since `env::args` gives no word that is not
 // text.
-const LONGEST: usize = 64;
+pub const LONGEST: usize = 64;
 
 // What is asked for.
 #[derive(Clone, Copy)]
@@ -25,7 +25,7 @@ fn count(rt: &impl Env) -> usize {
 }
 
 // What the words of the command line ask for.
-pub fn read<R: Env + AllocGlobal>(rt: &R) -> Result<Job, Failure> {
+pub fn read(rt: &impl Env) -> Result<Job, Failure> {
     match count(rt) {
         0 => return Err(Wrong::NoWord.into()),
         1 => {}
@@ -33,12 +33,11 @@ pub fn read<R: Env + AllocGlobal>(rt: &R) -> Result<Job, Failure> {
     }
     let mut buffer = [0u8; LONGEST];
     let Ok(length) = rt.arg(1, &mut buffer) else {
-        let word = b"..".to_vec(rt.alloc())?;
-        return Err(Failure::Word(word, WordError::TooLong));
+        return Err(Failure::word(b"..", WordError::TooLong));
     };
     match &buffer[..length] {
         b"info" => Ok(Job::Info),
         b"obj" => Ok(Job::Obj),
-        word => Err(Failure::Word(word.to_vec(rt.alloc())?, WordError::Unknown)),
+        word => Err(Failure::word(word, WordError::Unknown)),
     }
 }

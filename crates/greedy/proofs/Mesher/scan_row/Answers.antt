@@ -1,5 +1,5 @@
 -- `scan_row` meets its contract: what is scanned so far, idle voxels and others, is the row's first part.
-use Rattle.std.proofs.Common.{◌<◌, ◌+◌, ◌*◌, ◌-◌, ℕ, List, length, arith}
+use Rattle.std.proofs.Common.{◌<◌, ◌+◌, ◌*◌, ◌-◌, ◌≤◌, ℕ, List, length, arith}
 use Rattle.voxels.proofs.Loops.{Underway, underway_start, underway_on}
 use Rattle.greedy.specs.Spans.{spot}
 use Rattle.greedy.specs.Walks.{Idle}
@@ -8,7 +8,7 @@ use Rattle.greedy.proofs.Scanning.{Scanning, scan_start, scan_on, scan_done, sca
 use Rattle.greedy.proofs.Passing.{underway_past, rest_ready, idle_ends, idle_on}
 use Rattle.greedy.specs.declared.Mesher.{Mesher}
 use Rattle.greedy.proofs.Mesher.scan_row.Goals as goal
-use Rattle.greedy.proofs.Mesher.scan_row.Goals.{After-idle-passed, Start}
+use Rattle.greedy.proofs.Mesher.scan_row.Goals.{After-spot-minimum, After-idle-passed, Start}
 
 room : (c : Start) → RoomFor (row_tests c.args.scan.now) (progress c.args.self.now)
 room c = c.requires.room_for
@@ -35,6 +35,10 @@ behind : (c : After-idle-passed) →
     (record { block = m.block; visited = m.visited; out = m.out; listed = m.listed; tests = m.tests + c.idle-passed.result }) (c.loop-k.k + c.idle-passed.result)
 behind c = let a = c.args in idle_on a.scan.now (spot a.scan.now.axes.n a.slice a.row) _ c.loop-k.invariant.1 (passed c).passed
 
+-- After them the row is not at its end.
+unfinished : (c : After-spot-minimum) → c.loop-k.k + c.idle-passed.result ≤ c.args.scan.now.row.count → c.loop-k.k + c.idle-passed.result < c.args.scan.now.row.count
+unfinished c within = omega (arith, within, c.if-k-span.false)
+
 pub loop-k-init : goal.loop-k-init
 loop-k-init c = (underway_start, scan_start (room (goal.at.loop-k-init c).Start).0)
 
@@ -51,14 +55,14 @@ pub lay_quad-requires-clause-spot_ready : goal.lay_quad-requires-clause-spot_rea
 lay_quad-requires-clause-spot_ready c =
     let a = c.args in
     let past = (goal.at.lay_quad-requires-clause-spot_ready c).After-idle-passed in
-    let more : c.loop-k.k + c.idle-passed.result < a.scan.now.row.count = omega (arith, (stands past).within, c.if-k-span.false) in
+    let more = unfinished (goal.at.lay_quad-requires-clause-spot_ready c).After-spot-minimum (stands past).within in
     rw (c.spot-minimum.ensures, (stands past).place)
     (scan_asks (behind past) (λ (voxels marks x j : ℕ). SpotReady voxels marks a.scan.now (spot a.scan.now.axes.n a.slice a.row x) j) (ready (goal.at.lay_quad-requires-clause-spot_ready c).Start) more)
 
 pub loop-k-preserved : goal.loop-k-preserved
 loop-k-preserved c =
     let past = (goal.at.loop-k-preserved c).After-idle-passed in
-    let more : c.loop-k.k + c.idle-passed.result < c.args.scan.now.row.count = omega (arith, (stands past).within, c.if-k-span.false) in
+    let more = unfinished (goal.at.loop-k-preserved c).After-spot-minimum (stands past).within in
     let laid = rw (c.spot-minimum.ensures, (stands past).place) at c.lay_quad.ensures.laid in
     (underway_on (stands past) more, scan_on (behind past) c.lay_quad.ensures.same_call (scanned_laid _ _ _ _ _ (behind past).few (idle_ends _ c.loop-k.k (passed past) more) laid))
 

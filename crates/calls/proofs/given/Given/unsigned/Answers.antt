@@ -5,7 +5,7 @@ use Rattle.calls.proofs.given.Given.unsigned.Goals as goal
 
 pub returns : goal.returns
 returns c = record {
-  value = unsigned_value c.args.base c.digits.result c.spelt.result c.args.self.now.rest.now c.split_at.result.0.now c.digits.ensures c.split_at.ensures.front c.spelt.ensures;
-  rest = unsigned_rest c.args.base c.digits.result c.args.self.now.rest.now c.split_at.result.1.now c.past-self.result.now c.digits.ensures c.split_at.ensures.back c.past-self.ensures;
+  value = unsigned_value c.args.base c.spelt-number.result.0 c.args.self.now.rest.now c.spelt-number.ensures.number;
+  rest = unsigned_rest c.args.base c.args.self.now.rest.now c.spelt-number.result.1.now c.past-self.result.now c.spelt-number.ensures.past c.past-self.ensures;
   notation = refl;
 }

@@ -1,10 +1,10 @@
 -- `OrientedBlockFace::check_indexing` meets its contract: 6 and 13 in turn.
 use mathlib.Core.List.{[], ◌∷◌}
 use Rattle.geometry.specs.Checks.{bad_start, face_checks}
-use Rattle.geometry.proofs.Orders.{asked_in_turn}
+use Rattle.geometry.proofs.Orders.{first_follows, asked_in_turn}
 use Rattle.geometry.proofs.face.OrientedBlockFace.check_indexing.Goals as goal
 
 pub returns : goal.returns
 returns c =
     let a = c.args in
-    asked_in_turn (face_checks a.self) (bad_start a.start ∷ []) c.check_sign.ensures c.check_start.ensures c.first_refusal.ensures
+    asked_in_turn (face_checks a.self) (bad_start a.start ∷ []) c.check_sign.ensures c.check_start.ensures (first_follows _ _ c.first_refusal.ensures)

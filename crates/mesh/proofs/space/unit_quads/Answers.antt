@@ -1,0 +1,7 @@
+-- `space::unit_quads` is as long as its type says.
+use Rattle.std.proofs.Common.{ℕ, sym}
+use lib.ListN.{length-replicate}
+use Rattle.mesh.proofs.space.unit_quads.Goals as goal
+
+pub returns : goal.returns
+returns c = sym (length-replicate {0} {A = ℕ} 393216 0)

@@ -1,0 +1,7 @@
+-- `space::numbers` is as long as its type says.
+use Rattle.std.proofs.Common.{ℕ, sym}
+use lib.ListN.{length-replicate}
+use Rattle.replay.proofs.space.numbers.Goals as goal
+
+pub returns : goal.returns
+returns c = sym (length-replicate {0} {A = ℕ} 512 0)

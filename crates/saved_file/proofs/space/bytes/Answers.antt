@@ -1,0 +1,7 @@
+-- `space::bytes` is as long as its type says.
+use Rattle.std.proofs.Common.{ℕ, sym}
+use lib.ListN.{length-replicate}
+use Rattle.saved_file.proofs.space.bytes.Goals as goal
+
+pub returns : goal.returns
+returns c = sym (length-replicate {0} {A = ℕ} 2621475 0)

@@ -1,0 +1,7 @@
+-- `space::text` is as long as its type says.
+use Rattle.std.proofs.Common.{ℕ, sym}
+use lib.ListN.{length-replicate}
+use Rattle.saved_file.proofs.space.text.Goals as goal
+
+pub returns : goal.returns
+returns c = sym (length-replicate {0} {A = ℕ} 3000000 0)
